@@ -1,0 +1,11 @@
+//! Exact fractions whose two parts fit 64 bits, and the small types that contracts see as lists.
+#![tactic(auto)]
+
+mod frac;
+mod list;
+mod reduce;
+mod text;
+
+pub use frac::Frac;
+pub use list::List;
+pub use text::Text;

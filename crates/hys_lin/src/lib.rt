@@ -1,0 +1,10 @@
+//! Linear forms, rows, intervals, points and problems over columns.
+#![tactic(auto)]
+
+mod form;
+mod lost;
+mod problem;
+
+pub use form::{Affine, Interval, Point, Row, Term};
+pub use lost::{LinFault, Lost, Op};
+pub use problem::Problem;

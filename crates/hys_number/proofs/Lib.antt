@@ -1,0 +1,10 @@
+pub mod Ratio
+pub mod Laws
+pub mod Field
+pub mod Scale
+pub mod Order
+pub mod Inverse
+pub mod Big
+pub mod Ring
+pub mod Cancel
+pub mod Lists
