@@ -1,1 +1,3 @@
+pub mod Compare
 pub mod Frac
+pub mod Written

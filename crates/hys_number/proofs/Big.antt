@@ -1,9 +1,9 @@
-use Rattle.std.proofs.Common.{◌≡◌, ℕ, zero, suc, ◌+◌, ◌*◌, ◌<◌, ◌≤◌, ◌↔◌, ◌⊎◌, refl, sym, ◌∙◌, ap, subst, arith, Bool, true, false}
+use Rattle.std.proofs.Common.{◌≡◌, sym, ◌∙◌, ap, arith}
 use Rattle.hys_number.specs.Number.{Number}
-use Rattle.hys_number.specs.Ops.{◌+ₙ◌, ◌*ₙ◌, ◌-ₙ◌, neg, ◌≤ₙ◌, ◌<ₙ◌, whole}
-use Rattle.hys_number.proofs.Laws.{ratio, whole-ratio}
+use Rattle.hys_number.specs.Ops.{◌+ₙ◌, ◌*ₙ◌, ◌-ₙ◌, neg, ◌≤ₙ◌}
+use Rattle.hys_number.proofs.Laws.{whole-ratio}
 use Rattle.hys_number.proofs.Field.{mul_one, add_neg, mul_zero, add_comm, add_assoc, mul_comm, mul_assoc, mul-add, neg-add, neg-mul, neg_neg, add_zero, ratios, Parts, parts, parts_of}
-use Rattle.hys_number.proofs.Scale.{overs, common8, common8_of, common4, common4_of}
+use Rattle.hys_number.proofs.Scale.{overs, common8, common8_of}
 
 pub add_left_comm : (a b c : Number) → a +ₙ (b +ₙ c) ≡ b +ₙ (a +ₙ c)
 add_left_comm a b c = sym (add_assoc a b c) ∙ ap (λ x. x +ₙ c) (add_comm a b) ∙ add_assoc b a c

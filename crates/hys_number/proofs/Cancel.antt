@@ -1,11 +1,11 @@
-use Rattle.std.proofs.Common.{◌≡◌, ℕ, zero, suc, ◌+◌, ◌*◌, ◌<◌, ◌≤◌, ◌↔◌, ◌⊎◌, refl, sym, ◌∙◌, ap, subst, arith, Bool, true, false, pos, negsuc, ◌/◌}
+use Rattle.std.proofs.Common.{◌≡◌, refl, ◌∙◌, arith, pos, negsuc, ◌/◌}
 use Rattle.hys_number.specs.Number.{Number, make, same_number}
 use Rattle.hys_number.specs.Gcd.{gcd}
-use Rattle.hys_number.specs.Ops.{◌+ₙ◌, ◌*ₙ◌, ◌-ₙ◌, neg, ◌≤ₙ◌, ◌<ₙ◌, whole}
-use Rattle.hys_number.proofs.Laws.{ratio, whole-ratio}
+use Rattle.hys_number.specs.Ops.{◌+ₙ◌, ◌*ₙ◌, ◌-ₙ◌, neg, whole}
+use Rattle.hys_number.proofs.Laws.{whole-ratio}
 use Rattle.hys_number.proofs.Field.{mul_one, add_neg, mul_zero, add_comm, add_assoc, mul_comm, mul_assoc, mul-add, neg-add, neg-mul, neg_neg, add_zero, ratios, Parts, parts, parts_of}
 use Rattle.hys_number.proofs.Big.{ring}
-use Rattle.hys_number.proofs.Scale.{overs, common8, common8_of, common4, common4_of, common6, common6_of, common3, common3_of, common2, common2_of}
+use Rattle.hys_number.proofs.Scale.{overs, common4, common4_of, common3, common3_of, common2, common2_of}
 
 -- cancelling laws
 pub cancel : (a b : Number) → a +ₙ (neg a +ₙ b) ≡ b

@@ -1,9 +1,9 @@
-use Rattle.std.proofs.Common.{◌≡◌, ℕ, zero, suc, ◌+◌, ◌*◌, ◌-◌, ◌<◌, ◌≤◌, ◌↔◌, ◌⊎◌, refl, sym, ◌∙◌, ap, subst, arith, mul-pos, mul-le-mul_right, List, [], ◌∷◌, All, map, eq-or-lt_of_le, inl, inr, ⊎_elim}
+use Rattle.std.proofs.Common.{◌≡◌, ℕ, ◌+◌, ◌*◌, ◌-◌, ◌<◌, ◌≤◌, ◌↔◌, ◌⊎◌, ◌∙◌, arith, mul-pos, mul-le-mul_right, List, [], ◌∷◌, All, inl, inr, ⊎_elim}
 use Rattle.std.proofs.lemmas.List.Elements.{All-head, All-tail}
 use Rattle.hys_number.specs.Number.{Number}
-use Rattle.hys_number.specs.Ops.{◌+ₙ◌, ◌*ₙ◌, ◌-ₙ◌, neg, ◌≤ₙ◌, ◌<ₙ◌, whole}
-use Rattle.hys_number.proofs.Laws.{ratio, mul-ratio, le-ratio, same-ratio, whole-ratio}
-use Rattle.hys_number.proofs.Field.{mul_one, add_neg, mul_zero, Parts, parts, parts_of}
+use Rattle.hys_number.specs.Ops.{◌+ₙ◌, ◌*ₙ◌, ◌-ₙ◌, ◌≤ₙ◌, ◌<ₙ◌, whole}
+use Rattle.hys_number.proofs.Laws.{ratio, mul-ratio, le-ratio, whole-ratio}
+use Rattle.hys_number.proofs.Field.{mul_zero}
 use Rattle.hys_number.proofs.Scale.{overs, same-over, le-over, common1, common1_of, common2, common2_of, common3, common3_of}
 
 -- ---- the order
@@ -85,3 +85,15 @@ duality (r ∷ rs) c h = let here : Holds r = All-head Holds r rs h in linear c 
 
 pub le_refl' : (a : Number) → a ≤ₙ a
 le_refl' a = elim (common1_of a) [ common1 D h p1 n1 e1 ↦ rw (e1) (simp overs (omega arith)) ]
+
+pub lt_irrefl : (a : Number) → ¬ (a <ₙ a)
+lt_irrefl a = elim (common1_of a) [ common1 D h p1 n1 e1 ↦ rw (e1) (simp overs (omega arith)) ]
+
+pub lt_trans : (a b c : Number) → a <ₙ b → b <ₙ c → a <ₙ c
+lt_trans a b c = elim (common3_of a b c) [ common3 D h p1 n1 p2 n2 p3 n3 e1 e2 e3 ↦ rw (e1, e2, e3) (simp overs (omega arith)) ]
+
+pub le_of_lt : (a b : Number) → a <ₙ b → a ≤ₙ b
+le_of_lt a b = elim (common2_of a b) [ common2 D h p1 n1 p2 n2 e1 e2 ↦ rw (e1, e2) (simp overs (omega arith)) ]
+
+pub lt_of_le-lt : (a b c : Number) → a ≤ₙ b → b <ₙ c → a <ₙ c
+lt_of_le-lt a b c = elim (common3_of a b c) [ common3 D h p1 n1 p2 n2 p3 n3 e1 e2 e3 ↦ rw (e1, e2, e3) (simp overs (omega arith)) ]

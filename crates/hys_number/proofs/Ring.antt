@@ -1,12 +1,12 @@
-use Rattle.std.proofs.Common.{◌≡◌, ℕ, zero, suc, ◌+◌, ◌*◌, ◌<◌, ◌≤◌, ◌↔◌, ℤ, pos, negsuc, ◌+ℤ◌, ◌*ℤ◌, Bool, true, false, ◌&&◌, eqb, ltb, eqb→eq, T, List, [], ◌∷◌, refl, sym, ◌∙◌, ap, ap₂, subst, arith, tests, int_eq}
-use borrow.Author.Differences.{up, down, sum_is_lem, product_is, same_in}
+use Rattle.std.proofs.Common.{◌≡◌, ℕ, zero, suc, ◌*◌, ℤ, pos, negsuc, ◌+ℤ◌, ◌*ℤ◌, Bool, true, false, ◌&&◌, eqb, ltb, eqb→eq, T, List, [], ◌∷◌, refl, sym, ◌∙◌, ap, ap₂, subst, arith}
+use borrow.Author.Differences.{up, down, sum_is_lem, product_is}
 use Rattle.hys_number.specs.Number.{Number, make}
 use Rattle.hys_number.specs.Ops.{◌+ₙ◌, ◌*ₙ◌, ◌-ₙ◌, neg, ◌≤ₙ◌, whole}
-use Rattle.hys_number.proofs.Ratio.{Is, make_is}
+use Rattle.hys_number.proofs.Ratio.{make_is}
 use Rattle.hys_number.proofs.Laws.{ratio, ratio_of_is, add-ratio, mul-ratio, neg-ratio, same-ratio, whole-ratio}
-use Rattle.hys_number.proofs.Field.{mul_one, add_neg, mul_zero, add_comm, add_assoc, mul_comm, mul_assoc, mul-add, neg-add, neg-mul, neg_neg, add_zero}
+use Rattle.hys_number.proofs.Field.{mul_one, mul_zero, add_comm, add_assoc, mul_comm, mul_assoc, neg-mul, add_zero}
 use Rattle.hys_number.proofs.Big.{ring, add-mul, add_left_comm, mul_left_comm}
-use Rattle.hys_number.proofs.Scale.{overs, common2, common2_of, common1, common1_of}
+use Rattle.hys_number.proofs.Scale.{overs, common2, common2_of}
 
 infixl 6 ◌⊕◌ ◌⊖◌
 infixl 7 ◌⊗◌

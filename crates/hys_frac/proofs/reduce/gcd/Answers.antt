@@ -1,4 +1,4 @@
-use Rattle.std.proofs.Common.{sym, ◌∙◌, arith, ap}
+use Rattle.std.proofs.Common.{sym, ◌∙◌, arith}
 use Rattle.hys_number.specs.Gcd.{gcd-step, gcd-zero}
 use Rattle.hys_frac.proofs.reduce.gcd.Goals as goal
 
