@@ -1,1 +1,2 @@
 pub mod Fracs
+pub mod Wholes

@@ -1,3 +1,4 @@
 pub mod Compare
 pub mod Frac
 pub mod Written
+pub mod Differ

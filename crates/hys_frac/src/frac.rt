@@ -54,6 +54,16 @@ impl Frac {
         quotient(num as i128, den as i128)
     }
 
+    /// The whole number.
+    pub fn whole(number: u32) -> Frac
+        ensures { result ≡ whole number }
+    {
+        Frac {
+            num: number as i64,
+            den: 1,
+        }
+    }
+
     /// The numerator, in lowest terms.
     pub fn num(self) -> i64
         ensures value { result ≡ self.num }
