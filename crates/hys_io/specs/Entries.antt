@@ -4,6 +4,7 @@ use Rattle.std.specs.declared.alloc.Global.{Global}
 use Rattle.std.specs.FinMap as map
 use Rattle.hys_io.specs.Outside.{Named}
 
+-- the files, after these entries are put one after another
 abbrev pub with_files : Named → List (String Global × Vec ℕ Global) → Named
 with_files m [] = m
 with_files m (e ∷ es) = with_files (map.insert m (string_bytes e.0) e.1.items) es

@@ -1,4 +1,4 @@
 pub mod Outside
 pub mod Entries
-pub mod Memory
-pub mod Taken
+pub mod InMemory
+pub mod Counts

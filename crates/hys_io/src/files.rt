@@ -1,73 +1,48 @@
-ghost use Rattle.std.specs.Prelude.{◌≡◌, ◌<◌, ◌≤◌, List, ℕ, Option, length, take, IfOk, OnOk, OnErr, IsErrOf};
-ghost use Rattle.hys_io.specs.Outside.{Named, Rose, IfRead, IfPut, IfTorn, IfAppended};
-ghost use Rattle.hys_io.specs.declared.files.Failure.TheVariants.{Memory};
+ghost use Rattle.std.specs.Prelude.{◌≡◌, ◌≤◌, ℕ, Option, length, IfOk, OnOk, OnErr, IsErrOf};
+ghost use Rattle.hys_io.specs.Outside.{Named, Rose, Stays, IfRead, IfPut, IfTorn};
 
-use std::alloc::{AllocError, AllocFailed};
+use crate::Failure;
 
-/// Why a call on the outside did nothing.
-#[derive(Clone, Copy, Debug, PartialEq, Eq)]
-pub enum Failure {
-    Fault,
-    Memory,
-}
-
-impl From<AllocError> for Failure {
-    ghost from_gives = { λ _ e. e ≡ Memory };
-
-    fn from(_: AllocError) -> Failure {
-        Failure::Memory
-    }
-}
-
-impl<T: Drop> From<AllocFailed<T>> for Failure {
-    ghost from_gives = { λ _ e. e ≡ Memory };
-
-    fn from(_: AllocFailed<T>) -> Failure {
-        Failure::Memory
-    }
-}
-
+/// Files by name. A call that is refused by the outside is counted, reads and puts apart.
 pub trait Files {
-    /// The bytes under each name, where they are told.
+    /// The bytes under each name, where the implementation tells them.
     ghost held: { Self → Option Named };
 
-    /// How often a read has failed.
+    /// How many reads have failed. The number never falls, and `2^64 - 1` is its end.
     ghost read_faults: { Self → ℕ };
 
-    /// How often a put has failed.
+    /// How many puts have failed. The number never falls, and `2^64 - 1` is its end.
     ghost put_faults: { Self → ℕ };
 
-    /// Reads the file at an offset.
+    /// Reads the file from the byte `at` into the front of `into`, and answers how many bytes it
+    /// read: 0 exactly where `into` is empty or the file has no byte at `at`. What `into` holds
+    /// behind them is free.
+    ///
+    /// # Errors
+    ///
+    /// `Fault` where the file can't be read, as where the name isn't there. `Memory` for want of
+    /// memory. Neither changes a file.
     fn read_at(&mut self, name: &str, at: u64, into: &mut [u8]) -> Result<usize, Failure>
         ensures bound { IfOk result (λ count. count ≤ length into.new) }
         ensures found { IfOk result (λ count. IfRead (held self.old) name.now at count into.new) }
         ensures same { held self.new ≡ held self.old }
-        ensures counted { read_faults self.old ≤ read_faults self.new }
         ensures cause { IsErrOf result Failure.Fault → Rose (read_faults self.old) (read_faults self.new) }
+        ensures counted { read_faults self.old ≤ read_faults self.new }
+        ensures stays { Stays (read_faults self.old) (read_faults self.new) }
         ensures puts { put_faults self.new ≡ put_faults self.old };
 
-    /// Puts the bytes under the name.
+    /// Puts the bytes under the name, in place of what it held. Other names never change.
+    ///
+    /// # Errors
+    ///
+    /// `Fault` where the outside refuses: the name then holds what it held, or a prefix of `bytes`.
+    /// `Memory` for want of memory: nothing has changed.
     fn put(&mut self, name: &str, bytes: &[u8]) -> Result<(), Failure>
         ensures done { OnOk result (IfPut (held self.old) (held self.new) name.now bytes.now) }
         ensures torn { IsErrOf result Failure.Fault → IfTorn (held self.old) (held self.new) name.now bytes.now }
         ensures unchanged { IsErrOf result Failure.Memory → held self.new ≡ held self.old }
-        ensures counted { put_faults self.old ≤ put_faults self.new }
         ensures cause { IsErrOf result Failure.Fault → Rose (put_faults self.old) (put_faults self.new) }
+        ensures counted { put_faults self.old ≤ put_faults self.new }
+        ensures stays { Stays (put_faults self.old) (put_faults self.new) }
         ensures reads { read_faults self.new ≡ read_faults self.old };
-}
-
-pub trait Sink {
-    /// The bytes that were written, where they are told.
-    ghost written: { Self → Option (List ℕ) };
-
-    /// How often a write has failed.
-    ghost faults: { Self → ℕ };
-
-    fn write(&mut self, piece: &[u8]) -> Result<usize, Failure>
-        ensures bound { IfOk result (λ count. count ≤ length piece.now) }
-        ensures some { 0 < length piece.now → IfOk result (λ count. 0 < count) }
-        ensures appended { IfOk result (λ count. IfAppended (written self.old) (written self.new) (take count piece.now)) }
-        ensures unchanged { OnErr result (written self.new ≡ written self.old) }
-        ensures counted { faults self.old ≤ faults self.new }
-        ensures cause { IsErrOf result Failure.Fault → Rose (faults self.old) (faults self.new) };
 }
