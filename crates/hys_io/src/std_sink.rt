@@ -1,5 +1,5 @@
-ghost use Rattle.std.specs.Prelude.{◌≡◌, ◌<◌, ◌≤◌, if◌then◌else◌, length, take, is_ok, IsErrOf, OnErr, IfOk, IfErr};
-ghost use Rattle.hys_io.specs.Outside.{Rose, Stays, raised, IfAppended};
+ghost use Rattle.std.specs.Prelude.{◌≡◌, ◌<◌, ◌≤◌, if◌then◌else◌, length, is_ok, IfOk, IfErr};
+ghost use Rattle.hys_io.specs.Outside.{Stays, raised};
 
 use crate::{Failure, Sink};
 use std::marker::Model;
@@ -35,7 +35,16 @@ impl<P: Print + Drop> Sink for StdSink<P> {
 
     ghost faults = { λ s. s };
 
-    fn write(&mut self, piece: &[u8]) -> Result<usize, Failure> {
+    fn write(&mut self, piece: &[u8]) -> Result<usize, Failure>
+        ensures bound { IfOk result (λ count. count ≤ length piece.now) }
+        ensures some { 0 < length piece.now → IfOk result (λ count. 0 < count) }
+        ensures counted { self.old ≤ self.new }
+        ensures stays { Stays self.old self.new }
+
+        // It counts exactly its faults, and has no need of memory.
+        ensures fault { IfErr result (λ e. e ≡ Failure.Fault) }
+        ensures after { self.new ≡ (if is_ok result then self.old else raised self.old) }
+    {
         match self.system.write_some(piece) {
             Ok(count) if count > 0 || piece.is_empty() => Ok(count),
             _ => {
