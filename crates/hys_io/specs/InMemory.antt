@@ -15,9 +15,9 @@ pub record FilesInMemory : Type 0 where
 abbrev pub files_code : Coded FilesInMemory
 files_code =
     code_by (Named × (List ℕ × (ℕ × (ℕ × ℕ)))) (coded× (map.code (coded_list coded_ℕ) (coded_list coded_ℕ)) (coded× (coded_list coded_ℕ) (coded× coded_ℕ (coded× coded_ℕ coded_ℕ))))
-      (λ m. (m.files, (m.failing, (m.calls, (m.read_faults, m.put_faults)))))
-      (λ p. record { files = p.0; failing = p.1.0; calls = p.1.1.0; read_faults = p.1.1.1.0; put_faults = p.1.1.1.1 })
-      (λ _. refl)
+    (λ m. (m.files, (m.failing, (m.calls, (m.read_faults, m.put_faults)))))
+    (λ p. record { files = p.0; failing = p.1.0; calls = p.1.1.0; read_faults = p.1.1.1.0; put_faults = p.1.1.1.1 })
+    (λ _. refl)
 
 -- what was written, the numbers of the calls that are to fail, the number of the latest call, and the count of faults
 pub record SinkInMemory : Type 0 where

@@ -2,12 +2,11 @@ ghost use Rattle.std.specs.Prelude.{◌≡◌, ◌≤◌, if◌then◌else◌, l
 ghost use Rattle.hys_io.specs.Outside.{Stays, raised};
 
 use crate::{Failure, Files};
-use std::fs;
 use std::fs::File;
-use std::io;
 use std::io::{Read, Seek, SeekFrom};
 use std::marker::Model;
 use std::rt::Files as System;
+use std::{fs, io};
 
 /// The files of the system, by their paths. What they hold isn't told.
 #[derive(Drop)]
@@ -55,7 +54,7 @@ impl<R: System + Drop> Files for DiskFiles<R> {
         // It counts exactly its faults, and has no need of memory.
         ensures fault { IfErr result (λ e. e ≡ Failure.Fault) }
         ensures after { self.new ≡ record self.old {
-            read_faults = if is_ok result then self.old.read_faults else raised self.old.read_faults
+          read_faults = if is_ok result then self.old.read_faults else raised self.old.read_faults;
         } }
     {
         match read_part(&self.system, name, at, into) {
@@ -74,7 +73,7 @@ impl<R: System + Drop> Files for DiskFiles<R> {
         // It counts exactly its faults, and has no need of memory.
         ensures fault { IfErr result (λ e. e ≡ Failure.Fault) }
         ensures after { self.new ≡ record self.old {
-            put_faults = if is_ok result then self.old.put_faults else raised self.old.put_faults
+          put_faults = if is_ok result then self.old.put_faults else raised self.old.put_faults;
         } }
     {
         match fs::write(&self.system, name, bytes) {

@@ -27,11 +27,11 @@ impl Model for MemFiles {
     ghost coded = { files_code };
 
     ghost view = { λ s. record {
-        files = files_of s.files.items;
-        failing = s.schedule.failing.items;
-        calls = s.schedule.calls;
-        read_faults = s.read_faults;
-        put_faults = s.put_faults
+      files = files_of s.files.items;
+      failing = s.schedule.failing.items;
+      calls = s.schedule.calls;
+      read_faults = s.read_faults;
+      put_faults = s.put_faults;
     } };
 }
 
@@ -40,11 +40,11 @@ impl MemFiles {
     /// calls whose numbers are in `failing` will fail. Memory for later puts comes from `alloc`.
     pub fn new(alloc: Global, files: Vec<(String, Vec<u8>)>, failing: Vec<u64>) -> MemFiles
         ensures { result ≡ record {
-            files = files_of files.items;
-            failing = failing.items;
-            calls = 0;
-            read_faults = 0;
-            put_faults = 0
+          files = files_of files.items;
+          failing = failing.items;
+          calls = 0;
+          read_faults = 0;
+          put_faults = 0;
         } }
     {
         MemFiles {
@@ -84,8 +84,8 @@ impl Files for MemFiles {
             ↔ (Contains self.old.failing (raised self.old.calls) ⊎ IsNone (map.get self.old.files name.now)) }
         ensures fault { IfErr result (λ e. e ≡ Failure.Fault) }
         ensures after { self.new ≡ record self.old {
-            calls = raised self.old.calls;
-            read_faults = if is_ok result then self.old.read_faults else raised self.old.read_faults
+          calls = raised self.old.calls;
+          read_faults = if is_ok result then self.old.read_faults else raised self.old.read_faults;
         } }
     {
         if self.schedule.fails() {
@@ -108,15 +108,15 @@ impl Files for MemFiles {
         // The outside refuses it exactly where its number is listed. A refused put changes no file.
         ensures refused { IsErrOf result Failure.Fault ↔ Contains self.old.failing (raised self.old.calls) }
         ensures after_ok { OnOk result (self.new ≡ record self.old {
-            files = map.insert self.old.files name.now bytes.now;
-            calls = raised self.old.calls
+          files = map.insert self.old.files name.now bytes.now;
+          calls = raised self.old.calls;
         }) }
         ensures after_fault { IsErrOf result Failure.Fault → self.new ≡ record self.old {
-            calls = raised self.old.calls;
-            put_faults = raised self.old.put_faults
+          calls = raised self.old.calls;
+          put_faults = raised self.old.put_faults;
         } }
         ensures after_memory { IsErrOf result Failure.Memory → self.new ≡ record self.old {
-            calls = raised self.old.calls
+          calls = raised self.old.calls;
         } }
     {
         if self.schedule.fails() {

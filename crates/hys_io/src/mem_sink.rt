@@ -20,10 +20,10 @@ impl Model for MemSink {
     ghost Value = { SinkInMemory };
 
     ghost view = { λ s. record {
-        written = s.bytes.items;
-        failing = s.schedule.failing.items;
-        calls = s.schedule.calls;
-        faults = s.faults
+      written = s.bytes.items;
+      failing = s.schedule.failing.items;
+      calls = s.schedule.calls;
+      faults = s.faults;
     } };
 }
 
@@ -66,15 +66,15 @@ impl Sink for MemSink {
         ensures refused { IsErrOf result Failure.Fault ↔ Contains self.old.failing (raised self.old.calls) }
         ensures whole { IfOk result (λ count. count ≡ length piece.now) }
         ensures after_ok { OnOk result (self.new ≡ record self.old {
-            written = self.old.written ++ piece.now;
-            calls = raised self.old.calls
+          written = self.old.written ++ piece.now;
+          calls = raised self.old.calls;
         }) }
         ensures after_fault { IsErrOf result Failure.Fault → self.new ≡ record self.old {
-            calls = raised self.old.calls;
-            faults = raised self.old.faults
+          calls = raised self.old.calls;
+          faults = raised self.old.faults;
         } }
         ensures after_memory { IsErrOf result Failure.Memory → self.new ≡ record self.old {
-            calls = raised self.old.calls
+          calls = raised self.old.calls;
         } }
     {
         if self.schedule.fails() {

@@ -12,8 +12,8 @@ returns-in-Ok-eq0-clause-whole g c =
     c.truncate.ensures.items ∙ take-kept c.loop-bytes.filled c.make_room.new.bytes.len c.deref_mut.result.now c.read_at.new.into _ _ (omega arith) (omega arith) (omega arith)
     ∙ ap (take c.loop-bytes.filled) c.deref_mut.ensures.value ∙ c.make_room.ensures.same in
     subst (λ x. IfHolds (g.F.Files.held c.args.files.now) c.args.name.now (λ file. x ≡ file)) (sym left)
-      (front_whole _ _ c.args.name.now c.loop-bytes.bytes.items c.read_at.new.into c.loop-bytes.filled c.in-Ok-eq0.field-0 c.loop-bytes.invariant.same c.loop-bytes.invariant.front (omega arith)
-        (omega arith) c.in-Ok-eq0.ensures.found)
+    (front_whole _ _ c.args.name.now c.loop-bytes.bytes.items c.read_at.new.into c.loop-bytes.filled c.in-Ok-eq0.field-0 c.loop-bytes.invariant.same c.loop-bytes.invariant.front (omega arith)
+    (omega arith) c.in-Ok-eq0.ensures.found)
 
 pub loop-bytes-preserved : goal.loop-bytes-preserved
 loop-bytes-preserved g c =
@@ -22,11 +22,11 @@ loop-bytes-preserved g c =
       within = omega (arith, c.in-Ok.ensures.bound);
       below = omega arith;
       front =
-        front_grows _ _ c.args.name.now c.loop-bytes.bytes.items _ c.read_at.new.into c.loop-bytes.filled c.in-Ok.count c.loop-bytes.invariant.same c.loop-bytes.invariant.front
+          front_grows _ _ c.args.name.now c.loop-bytes.bytes.items _ c.read_at.new.into c.loop-bytes.filled c.in-Ok.count c.loop-bytes.invariant.same c.loop-bytes.invariant.front
           (take-written_back c.loop-bytes.filled c.in-Ok.count c.make_room.new.bytes.len c.deref_mut.result.now c.read_at.new.into _ _ (omega arith) (omega arith) (omega arith) c.in-Ok.ensures.bound ∙ ap (λ x. x ++ take c.in-Ok.count c.read_at.new.into) (ap (take c.loop-bytes.filled) c.deref_mut.ensures.value ∙ c.make_room.ensures.same))
           c.in-Ok.ensures.found;
       same = c.read_at.ensures.same ∙ c.loop-bytes.invariant.same;
       counted = omega (arith, c.read_at.ensures.counted);
       stays = search rules;
-      puts = c.read_at.ensures.puts ∙ c.loop-bytes.invariant.puts
+      puts = c.read_at.ensures.puts ∙ c.loop-bytes.invariant.puts;
     }

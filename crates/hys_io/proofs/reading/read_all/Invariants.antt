@@ -11,7 +11,7 @@ invariant-loop-bytes g l = record {
   same : g.F.Files.held l.files ≡ g.F.Files.held l.fn.files;
   counted : g.F.Files.read_faults l.fn.files ≤ g.F.Files.read_faults l.files;
   stays : Stays (g.F.Files.read_faults l.fn.files) (g.F.Files.read_faults l.files);
-  puts : g.F.Files.put_faults l.files ≡ g.F.Files.put_faults l.fn.files
+  puts : g.F.Files.put_faults l.files ≡ g.F.Files.put_faults l.fn.files;
 }
 
 abbrev pub decreases-loop-bytes : goal.decreases-loop-bytes

@@ -7,7 +7,7 @@ invariant-loop-done g l = record {
   within : l.done ≤ length l.text;
   written : IfAppended (g.S.Sink.written l.fn.out) (g.S.Sink.written l.out) (take l.done l.text);
   counted : g.S.Sink.faults l.fn.out ≤ g.S.Sink.faults l.out;
-  stays : Stays (g.S.Sink.faults l.fn.out) (g.S.Sink.faults l.out)
+  stays : Stays (g.S.Sink.faults l.fn.out) (g.S.Sink.faults l.out);
 }
 
 abbrev pub decreases-loop-done : goal.decreases-loop-done
