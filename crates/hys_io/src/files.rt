@@ -1,4 +1,4 @@
-ghost use Rattle.std.specs.Prelude.{◌≡◌, ◌≤◌, ℕ, Option, length, IfOk, OnOk, OnErr, IsErrOf};
+ghost use Rattle.std.specs.Prelude.{◌≡◌, ◌≤◌, ℕ, Option, length, IfOk, OnOk, IsErrOf};
 ghost use Rattle.hys_io.specs.Outside.{Named, Rose, Stays, IfRead, IfPut, IfTorn};
 
 use crate::Failure;
@@ -8,10 +8,12 @@ pub trait Files {
     /// The bytes under each name, where the implementation tells them.
     ghost held: { Self → Option Named };
 
-    /// How many reads have failed. The number never falls, and `2^64 - 1` is its end.
+    /// How many reads have failed. The number rises with each fault of a read and nothing else, and
+    /// `2^64 - 1` is its end.
     ghost read_faults: { Self → ℕ };
 
-    /// How many puts have failed. The number never falls, and `2^64 - 1` is its end.
+    /// How many puts have failed. The number rises with each fault of a put and nothing else, and
+    /// `2^64 - 1` is its end.
     ghost put_faults: { Self → ℕ };
 
     /// Reads the file from the byte `at` into the front of `into`, and answers how many bytes it
@@ -29,6 +31,8 @@ pub trait Files {
         ensures cause { IsErrOf result Failure.Fault → Rose (read_faults self.old) (read_faults self.new) }
         ensures counted { read_faults self.old ≤ read_faults self.new }
         ensures stays { Stays (read_faults self.old) (read_faults self.new) }
+        ensures calm { OnOk result (read_faults self.new ≡ read_faults self.old) }
+        ensures calm_memory { IsErrOf result Failure.Memory → read_faults self.new ≡ read_faults self.old }
         ensures puts { put_faults self.new ≡ put_faults self.old };
 
     /// Puts the bytes under the name, in place of what it held. Other names never change.
@@ -44,5 +48,7 @@ pub trait Files {
         ensures cause { IsErrOf result Failure.Fault → Rose (put_faults self.old) (put_faults self.new) }
         ensures counted { put_faults self.old ≤ put_faults self.new }
         ensures stays { Stays (put_faults self.old) (put_faults self.new) }
+        ensures calm { OnOk result (put_faults self.new ≡ put_faults self.old) }
+        ensures calm_memory { IsErrOf result Failure.Memory → put_faults self.new ≡ put_faults self.old }
         ensures reads { read_faults self.new ≡ read_faults self.old };
 }

@@ -46,6 +46,9 @@ pub fn read_all<F: Files>(
     ensures cause { IsErrOf result ReadFault.Fault → Rose (F.read_faults files.old) (F.read_faults files.new) }
     ensures counted { F.read_faults files.old ≤ F.read_faults files.new }
     ensures stays { Stays (F.read_faults files.old) (F.read_faults files.new) }
+    ensures calm { OnOk result (F.read_faults files.new ≡ F.read_faults files.old) }
+    ensures calm_long { IsErrOf result ReadFault.TooLong → F.read_faults files.new ≡ F.read_faults files.old }
+    ensures calm_memory { IsErrOf result ReadFault.Memory → F.read_faults files.new ≡ F.read_faults files.old }
     ensures same { F.held files.new ≡ F.held files.old }
     ensures puts { F.put_faults files.new ≡ F.put_faults files.old }
 {

@@ -38,16 +38,16 @@ fn files_in_memory(rt: HostRuntime) -> Result<(), Fail> {
             _ => assert!(rt; false, "{name} at {at}"),
         }
     }
-    assert_eq!(rt; files.get("a"), Some(b"new".as_slice()));
-    assert_eq!(rt; files.get("c"), None);
+    assert_eq!(rt; files.get("a").unwrap_or(b"none"), b"new".as_slice());
+    assert!(rt; files.get("c").is_none());
 
     let mut files = sample(rt.alloc(), &[2])?;
     assert_eq!(rt; files.put("c", b"three"), Ok(()));
     assert_eq!(rt; files.put("a", b"four"), Err(Failure::Fault));
     assert_eq!(rt; files.put("b", b""), Ok(()));
-    assert_eq!(rt; files.get("a"), Some(b"new".as_slice()));
-    assert_eq!(rt; files.get("b"), Some(b"".as_slice()));
-    assert_eq!(rt; files.get("c"), Some(b"three".as_slice()));
+    assert_eq!(rt; files.get("a").unwrap_or(b"none"), b"new".as_slice());
+    assert_eq!(rt; files.get("b").unwrap_or(b"none"), b"".as_slice());
+    assert_eq!(rt; files.get("c").unwrap_or(b"none"), b"three".as_slice());
     Ok(())
 }
 
@@ -89,6 +89,7 @@ fn a_sink_in_memory(rt: HostRuntime) -> Result<(), Fail> {
 fn files_of_the_system(rt: HostRuntime) -> Result<(), Fail> {
     let alloc = rt.alloc();
     let text = vec![in alloc; 7; 200_000]?;
+    let _ = fs::remove_dir_all(&rt, "folder");
     fs::create_dir(&rt, "folder")?;
     let mut files = DiskFiles::new(rt.clone()?);
     assert_eq!(rt; files.put("folder/long", &text), Ok(()));

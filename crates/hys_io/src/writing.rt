@@ -1,4 +1,4 @@
-ghost use Rattle.std.specs.Prelude.{◌≤◌, ℕ, take, OnOk, OnErr, IsErrOf};
+ghost use Rattle.std.specs.Prelude.{◌≡◌, ◌≤◌, ℕ, take, OnOk, OnErr, IsErrOf};
 ghost use Rattle.hys_io.specs.Outside.{Rose, Stays, IfAppended};
 
 use crate::{Failure, Sink};
@@ -14,6 +14,8 @@ pub fn write_all<S: Sink>(out: &mut S, text: &[u8]) -> Result<(), Failure>
     ensures cause { IsErrOf result Failure.Fault → Rose (S.faults out.old) (S.faults out.new) }
     ensures counted { S.faults out.old ≤ S.faults out.new }
     ensures stays { Stays (S.faults out.old) (S.faults out.new) }
+    ensures calm { OnOk result (S.faults out.new ≡ S.faults out.old) }
+    ensures calm_memory { IsErrOf result Failure.Memory → S.faults out.new ≡ S.faults out.old }
 {
     let mut done = 0;
     while done < text.len() {

@@ -1,5 +1,5 @@
-use Rattle.std.proofs.Common.{rules, arith, ◌≡◌, ◌≤◌, ◌<◌, length, take, ℕ, ◌+◌, ◌-◌, ◌++◌, sym, ap, ◌∙◌, subst, add-zero, append-nil}
-use Rattle.hys_io.specs.Outside.{Stays, IfHolds}
+use Rattle.std.proofs.Common.{rules, arith, ◌≡◌, ◌<◌, length, take, ◌++◌, sym, ap, ◌∙◌, subst}
+use Rattle.hys_io.specs.Outside.{IfHolds}
 use Rattle.hys_io.proofs.Buffers.{take-written_back, take-kept}
 use Rattle.hys_io.proofs.Fronts.{front_grows, front_whole}
 use Rattle.hys_io.proofs.reading.read_all.Goals as goal
@@ -26,7 +26,6 @@ loop-bytes-preserved g c =
           (take-written_back c.loop-bytes.filled c.in-Ok.count c.make_room.new.bytes.len c.deref_mut.result.now c.read_at.new.into _ _ (omega arith) (omega arith) (omega arith) c.in-Ok.ensures.bound ∙ ap (λ x. x ++ take c.in-Ok.count c.read_at.new.into) (ap (take c.loop-bytes.filled) c.deref_mut.ensures.value ∙ c.make_room.ensures.same))
           c.in-Ok.ensures.found;
       same = c.read_at.ensures.same ∙ c.loop-bytes.invariant.same;
-      counted = omega (arith, c.read_at.ensures.counted);
-      stays = search rules;
+      calm = c.in-Ok.ensures.calm ∙ c.loop-bytes.invariant.calm;
       puts = c.read_at.ensures.puts ∙ c.loop-bytes.invariant.puts;
     }

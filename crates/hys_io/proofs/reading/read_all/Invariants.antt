@@ -1,5 +1,4 @@
 use Rattle.std.proofs.Common.{◌≡◌, ◌≤◌, vec_len, ◌-◌}
-use Rattle.hys_io.specs.Outside.{Stays}
 use Rattle.hys_io.proofs.Fronts.{Front}
 use Rattle.hys_io.proofs.reading.read_all.Given as goal
 
@@ -9,8 +8,7 @@ invariant-loop-bytes g l = record {
   below : l.filled ≤ l.limit;
   front : Front (g.F.Files.held l.fn.files) l.name l.filled l.bytes.items;
   same : g.F.Files.held l.files ≡ g.F.Files.held l.fn.files;
-  counted : g.F.Files.read_faults l.fn.files ≤ g.F.Files.read_faults l.files;
-  stays : Stays (g.F.Files.read_faults l.fn.files) (g.F.Files.read_faults l.files);
+  calm : g.F.Files.read_faults l.files ≡ g.F.Files.read_faults l.fn.files;
   puts : g.F.Files.put_faults l.files ≡ g.F.Files.put_faults l.fn.files;
 }
 

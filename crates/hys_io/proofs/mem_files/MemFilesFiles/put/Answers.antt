@@ -1,4 +1,4 @@
-use Rattle.std.proofs.Common.{subst, refl, true, ◌≡◌, Contains}
+use Rattle.std.proofs.Common.{subst, refl, Contains}
 use Rattle.hys_io.specs.Outside.{raised}
 use Rattle.hys_io.proofs.mem_files.MemFilesFiles.put.Goals as goal
 
