@@ -1,0 +1,4 @@
+pub mod Outside
+pub mod Entries
+pub mod InMemory
+pub mod Counts

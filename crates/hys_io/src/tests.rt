@@ -1,0 +1,158 @@
+use crate::{
+    DiskFiles, Failure, Files, MemFiles, MemSink, ReadFault, Sink, StdSink, read_all, write_all,
+};
+use std::alloc::{AllocError, Global};
+use std::test::Fail;
+use std::{fs, io};
+
+// Two files, of which the first is given twice.
+fn sample(alloc: Global, failing: &[u64]) -> Result<MemFiles, AllocError> {
+    let mut files = Vec::new(alloc);
+    for (name, bytes) in [("a", b"old"), ("b", b"two"), ("a", b"new")] {
+        let entry = (String::from_str(alloc, name)?, bytes.to_vec(alloc)?);
+        files.push(entry)?;
+    }
+    Ok(MemFiles::new(alloc, files, failing.to_vec(alloc)?))
+}
+
+#[test]
+fn files_in_memory(rt: HostRuntime) -> Result<(), Fail> {
+    let mut files = sample(rt.alloc(), &[5])?;
+    let reads = [
+        ("a", 0, Ok(b"ne".as_slice())),
+        ("b", 1, Ok(b"wo".as_slice())),
+        ("b", 2, Ok(b"o".as_slice())),
+        ("b", 3, Ok(b"".as_slice())),
+        ("a", 0, Err(Failure::Fault)),
+        ("c", 0, Err(Failure::Fault)),
+        ("b", u64::MAX, Ok(b"".as_slice())),
+    ];
+    for (name, at, want) in reads {
+        let mut into = [0u8; 2];
+        match (files.read_at(name, at, &mut into), want) {
+            (Ok(count), Ok(bytes)) => {
+                assert!(rt; count <= 2);
+                assert_eq!(rt; &into[..count], bytes, "at {at}");
+            }
+            (Err(failure), Err(wanted)) => assert_eq!(rt; failure, wanted),
+            _ => assert!(rt; false, "{name} at {at}"),
+        }
+    }
+    assert_eq!(rt; files.get("a").unwrap_or(b"none"), b"new".as_slice());
+    assert!(rt; files.get("c").is_none());
+
+    let mut files = sample(rt.alloc(), &[2])?;
+    assert_eq!(rt; files.put("c", b"three"), Ok(()));
+    assert_eq!(rt; files.put("a", b"four"), Err(Failure::Fault));
+    assert_eq!(rt; files.put("b", b""), Ok(()));
+    assert_eq!(rt; files.get("a").unwrap_or(b"none"), b"new".as_slice());
+    assert_eq!(rt; files.get("b").unwrap_or(b"none"), b"".as_slice());
+    assert_eq!(rt; files.get("c").unwrap_or(b"none"), b"three".as_slice());
+    Ok(())
+}
+
+#[test]
+fn whole_files(rt: HostRuntime) -> Result<(), Fail> {
+    let rows = [
+        ("a", 2, 0, Err(ReadFault::TooLong)),
+        ("a", 3, 0, Ok(b"new".as_slice())),
+        ("a", 4, 0, Ok(b"new".as_slice())),
+        ("a", u64::MAX, 3, Ok(b"new".as_slice())),
+        ("a", 0, 0, Err(ReadFault::TooLong)),
+        ("a", 3, 1, Err(ReadFault::Fault)),
+        ("a", 3, 2, Err(ReadFault::Fault)),
+        ("c", 3, 0, Err(ReadFault::Fault)),
+    ];
+    for (name, limit, failing, want) in rows {
+        let mut files = sample(rt.alloc(), &[failing])?;
+        match (read_all(rt.alloc(), &mut files, name, limit), want) {
+            (Ok(bytes), Ok(wanted)) => assert_eq!(rt; bytes.as_slice(), wanted, "{limit}"),
+            (Err(fault), Err(wanted)) => assert_eq!(rt; fault, wanted, "{limit}"),
+            _ => assert!(rt; false, "{name} with {limit} and {failing}"),
+        }
+    }
+    Ok(())
+}
+
+#[test]
+fn a_sink_in_memory(rt: HostRuntime) -> Result<(), Fail> {
+    let mut out = MemSink::new(rt.alloc(), [2].to_vec(rt.alloc())?);
+    assert_eq!(rt; write_all(&mut out, b"one"), Ok(()));
+    assert_eq!(rt; write_all(&mut out, b""), Ok(()));
+    assert_eq!(rt; write_all(&mut out, b"two"), Err(Failure::Fault));
+    assert_eq!(rt; out.write(b"three"), Ok(5));
+    assert_eq!(rt; out.bytes(), b"onethree".as_slice());
+    Ok(())
+}
+
+#[test]
+fn files_of_the_system(rt: HostRuntime) -> Result<(), Fail> {
+    let alloc = rt.alloc();
+    let text = vec![in alloc; 7; 200_000]?;
+    let _ = fs::remove_dir_all(&rt, "folder");
+    fs::create_dir(&rt, "folder")?;
+    let mut files = DiskFiles::new(rt.clone()?);
+    assert_eq!(rt; files.put("folder/long", &text), Ok(()));
+    let limits = [
+        (199_999, Err(ReadFault::TooLong)),
+        (200_000, Ok(())),
+        (200_001, Ok(())),
+    ];
+    for (limit, want) in limits {
+        match read_all(alloc, &mut files, "folder/long", limit) {
+            Ok(bytes) => {
+                assert_eq!(rt; want, Ok(()));
+                assert!(rt; bytes.as_slice() == text.as_slice());
+            }
+            Err(fault) => assert_eq!(rt; want, Err(fault)),
+        }
+    }
+    assert_eq!(rt; files.put("folder/long", b"short"), Ok(()));
+    assert_eq!(rt;
+        fs::read(&rt, "folder/long")?.as_slice(),
+        b"short".as_slice()
+    );
+    assert_eq!(rt; files.put("folder", b""), Err(Failure::Fault));
+    for name in ["folder", "none", "folder/none", ""] {
+        let mut into = [0u8; 2];
+        assert_eq!(rt;
+            files.read_at(name, 0, &mut into),
+            Err(Failure::Fault),
+            "{name}"
+        );
+    }
+    Ok(())
+}
+
+// An output that takes no byte.
+#[derive(Drop)]
+struct Stuck;
+
+impl Print for Stuck {
+    fn print<D: std::fmt::Display + Drop>(&self, _: D) -> io::Result<()> {
+        Ok(())
+    }
+
+    fn println<D: std::fmt::Display + Drop>(&self, _: D) -> io::Result<()> {
+        Ok(())
+    }
+
+    fn write_all(&self, _: &[u8]) -> io::Result<()> {
+        Ok(())
+    }
+
+    fn write_some(&self, _: &[u8]) -> io::Result<usize> {
+        Ok(0)
+    }
+}
+
+#[test]
+fn the_standard_output(rt: HostRuntime) -> Result<(), Fail> {
+    let mut out = StdSink::new(rt.clone()?);
+    assert_eq!(rt; write_all(&mut out, b"written\n"), Ok(()));
+    let mut stuck = StdSink::new(Stuck);
+    assert_eq!(rt; stuck.write(b""), Ok(0));
+    assert_eq!(rt; stuck.write(b"text"), Err(Failure::Fault));
+    assert_eq!(rt; write_all(&mut stuck, b"text"), Err(Failure::Fault));
+    Ok(())
+}
