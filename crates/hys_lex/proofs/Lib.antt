@@ -1,0 +1,6 @@
+pub mod Tables
+pub mod Runs
+pub mod Literals
+pub mod Opening
+pub mod Matches
+pub mod Fronts

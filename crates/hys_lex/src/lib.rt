@@ -1,0 +1,15 @@
+//! Cuts a source text into tokens.
+#![tactic(auto)]
+
+mod byte;
+mod comment;
+mod cut;
+pub mod keyword;
+mod literal;
+mod piece;
+pub mod sign;
+mod token;
+mod words;
+
+pub use cut::{LexFault, tokens};
+pub use token::{Token, TokenKind};
