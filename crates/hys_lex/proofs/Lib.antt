@@ -4,3 +4,4 @@ pub mod Literals
 pub mod Opening
 pub mod Matches
 pub mod Fronts
+pub mod Spacing

@@ -3,3 +3,4 @@ pub mod Words
 pub mod Pieces
 pub mod Cut
 pub mod Reading
+pub mod Spaced

@@ -5,9 +5,12 @@ mod byte;
 mod comment;
 mod cut;
 pub mod keyword;
+pub mod laws;
 mod literal;
 mod piece;
 pub mod sign;
+#[cfg(test)]
+mod tests;
 mod token;
 mod words;
 
