@@ -1,0 +1,8 @@
+//! Mixed logical dynamical systems and their matrix text.
+#![tactic(auto)]
+
+mod system;
+mod writer;
+
+pub use system::{Column, ColumnRole, Kind2, Output, System};
+pub use writer::write_system;
