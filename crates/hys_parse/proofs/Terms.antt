@@ -5,7 +5,7 @@ use Rattle.hys_number.specs.Number.{Number, make}
 use Rattle.hys_number.specs.Ops.{whole}
 use Rattle.hys_lin.specs.Sums.{AreTerms, EachColumn}
 use Rattle.hys_lin.specs.declared.form.Term.{Term}
-use Rattle.hys_parse.specs.Parts.{AreTermsBelow}
+use Rattle.hys_lin.specs.Over.{AreTermsOver}
 
 each_more : (P Q : ℕ → Type 0) → ((c : ℕ) → P c → Q c) → (ts : List Term) → EachColumn P ts → EachColumn Q ts
 each_more P Q f [] h = tt
@@ -19,13 +19,13 @@ rise_push : (ts : List Term) (t : Term) → AreTerms ts → EachColumn (λ c. c 
 rise_push [] t h k n = (n, tt, tt)
 rise_push (s ∷ ts) t h k n = (h.0, each_push (λ c. s.column < c) ts t h.1 k.0, rise_push ts t h.2 k.1 n)
 
-pub none_below : (n : ℕ) → AreTermsBelow n []
+pub none_below : (n : ℕ) → AreTermsOver n []
 none_below n = record { rise = tt; below = tt }
 
-pub below_next : (n : ℕ) (ts : List Term) → AreTermsBelow n ts → AreTermsBelow (n + 1) ts
+pub below_next : (n : ℕ) (ts : List Term) → AreTermsOver n ts → AreTermsOver (n + 1) ts
 below_next n ts h = record { rise = h.rise; below = each_more (λ c. c < n) (λ c. c < n + 1) (λ c k. omega arith) ts h.below }
 
-pub below_push : (n : ℕ) (ts : List Term) (t : Term) → AreTermsBelow n ts → t.column ≡ n → ¬ (t.factor ≡ whole 0) → AreTermsBelow (n + 1) (ts ++ t ∷ [])
+pub below_push : (n : ℕ) (ts : List Term) (t : Term) → AreTermsOver n ts → t.column ≡ n → ¬ (t.factor ≡ whole 0) → AreTermsOver (n + 1) (ts ++ t ∷ [])
 below_push n ts t h e k = record {
   rise = rise_push ts t h.rise (each_more (λ c. c < n) (λ c. c < t.column) (λ c k. omega arith) ts h.below) k;
   below = each_push (λ c. c < n + 1) ts t (each_more (λ c. c < n) (λ c. c < n + 1) (λ c k. omega arith) ts h.below) (omega arith);

@@ -2,17 +2,12 @@
 use Rattle.std.specs.Prelude.{◌≡◌, ℕ, ◌+◌, ◌<◌, ◌≤◌, List, [], ◌∷◌, ◌++◌, length, map}
 use Rattle.std.specs.List.{All}
 use Rattle.hys_frac.specs.Differ.{Differ}
-use Rattle.hys_lin.specs.Sums.{AreTerms, EachColumn, IsInterval}
-use Rattle.hys_lin.specs.declared.form.Term.{Term}
+use Rattle.hys_lin.specs.Sums.{IsInterval}
+use Rattle.hys_lin.specs.Over.{AreTermsOver}
 use Rattle.hys_parse.specs.declared.parts.Boxed.{Boxed}
 use Rattle.hys_parse.specs.declared.parts.PlainParts.{PlainParts}
 use Rattle.hys_parse.specs.declared.names.Names.{Names}
 use Rattle.hys_parse.specs.declared.next.Next.{Next}
-
--- the terms of a form over so many columns: the columns rise, and no factor is 0
-pub record AreTermsBelow (columns : ℕ) (ts : List Term) : Type 0 where
-  pub rise : AreTerms ts
-  pub below : EachColumn (λ c. c < columns) ts
 
 abbrev pub name_of : Boxed → List ℕ
 name_of b = b.name
@@ -24,7 +19,7 @@ boxed_of p = p.states ++ p.inputs
 -- next values, each marked as defined or not
 pub record IsNext (next : Next) : Type 0 where
   pub marks : length next.defined.items ≡ length next.forms.items
-  pub forms : All (λ f. AreTermsBelow next.columns f.terms) next.forms.items
+  pub forms : All (λ f. AreTermsOver next.columns f.terms) next.forms.items
 
 -- how many names there are
 abbrev pub count_of : Names → ℕ
@@ -34,5 +29,5 @@ pub record AreParts (p : PlainParts) : Type 0 where
   pub boxes : All (λ b. IsInterval b.bounds) (boxed_of p)
   pub differ : Differ (map name_of (boxed_of p))
   pub each : length p.next ≡ length p.states
-  pub forms : All (λ f. AreTermsBelow (length (boxed_of p)) f.terms) p.next
+  pub forms : All (λ f. AreTermsOver (length (boxed_of p)) f.terms) p.next
   pub few : length (boxed_of p) ≤ 200

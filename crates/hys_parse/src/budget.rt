@@ -1,6 +1,7 @@
-use crate::parts::{NOT_PLAIN, PlainFault};
+use crate::parts::PlainFault;
 
 const NODES: u32 = 4000;
+
 const NODES_OF_ONE: u32 = 1000;
 
 // How many more expression nodes a source may have.
@@ -17,7 +18,7 @@ impl Budget {
     // Takes an expression of so many nodes off.
     pub fn take_expression(&mut self, nodes: u32) -> Result<(), PlainFault> {
         if nodes > NODES_OF_ONE || nodes > self.nodes {
-            return Err(NOT_PLAIN);
+            return Err(PlainFault::NotYet);
         }
         self.nodes -= nodes;
         Ok(())

@@ -3,7 +3,7 @@ ghost use Rattle.hys_lin.specs.Sums.{IsInterval};
 
 use crate::budget::Budget;
 use crate::cursor::{after, digits, word};
-use crate::parts::{Boxed, NOT_PLAIN, PlainFault};
+use crate::parts::{Boxed, PlainFault};
 use hys_frac::{Frac, Text};
 use hys_lex::{Token, TokenKind, keyword, sign};
 use hys_lin::Interval;
@@ -11,11 +11,17 @@ use std::alloc::Global;
 use std::cmp::Ordering;
 
 const MINUS: TokenKind = TokenKind::Sign(sign::MINUS);
+
 const COMMA: TokenKind = TokenKind::Sign(sign::COMMA);
+
 const SEMICOLON: TokenKind = TokenKind::Sign(sign::SEMICOLON);
+
 const OPEN_BRACE: TokenKind = TokenKind::Sign(sign::OPEN_BRACE);
+
 const CLOSE_BRACE: TokenKind = TokenKind::Sign(sign::CLOSE_BRACE);
+
 const OPEN_BRACKET: TokenKind = TokenKind::Sign(sign::OPEN_BRACKET);
+
 const CLOSE_BRACKET: TokenKind = TokenKind::Sign(sign::CLOSE_BRACKET);
 
 // A literal, or `-` and a literal, with its expression nodes and what stands after it.
@@ -52,22 +58,22 @@ fn bounds<'a>(
     ensures shorter { IfOk result (λ p. length p.1.now < length tokens.now) }
     ensures ordered { IfOk result (λ p. IsInterval p.0) }
 {
-    let rest = after(tokens, OPEN_BRACKET).ok_or(NOT_PLAIN)?;
+    let rest = after(tokens, OPEN_BRACKET).ok_or(PlainFault::NotYet)?;
     let (low, nodes, rest) = match bound(text, rest) {
         Some(read) => read,
-        None => return Err(NOT_PLAIN),
+        None => return Err(PlainFault::NotYet),
     };
     budget.take_expression(nodes)?;
-    let rest = after(rest, COMMA).ok_or(NOT_PLAIN)?;
+    let rest = after(rest, COMMA).ok_or(PlainFault::NotYet)?;
     let (high, nodes, rest) = match bound(text, rest) {
         Some(read) => read,
-        None => return Err(NOT_PLAIN),
+        None => return Err(PlainFault::NotYet),
     };
     budget.take_expression(nodes)?;
-    let rest = after(rest, CLOSE_BRACKET).ok_or(NOT_PLAIN)?;
+    let rest = after(rest, CLOSE_BRACKET).ok_or(PlainFault::NotYet)?;
     match ordered(low, high) {
         Some(interval) => Ok((interval, rest)),
-        None => Err(NOT_PLAIN),
+        None => Err(PlainFault::NotYet),
     }
 }
 
@@ -81,7 +87,7 @@ fn read_boxed<'a>(
     ensures shorter { IfOk result (λ p. length p.1.now < length tokens.now) }
     ensures ordered { IfOk result (λ p. IsInterval p.0.bounds) }
 {
-    let (name, rest) = word(text, tokens, TokenKind::Name).ok_or(NOT_PLAIN)?;
+    let (name, rest) = word(text, tokens, TokenKind::Name).ok_or(PlainFault::NotYet)?;
     let name = Text::of(String::from_str(alloc, name)?);
     match bounds(text, rest, budget) {
         Ok((bounds, rest)) => Ok((Boxed { name, bounds }, rest)),
@@ -110,7 +116,7 @@ fn declaration<'a>(
         found.push(name)?;
         match after(more, COMMA) {
             Some(more) => rest = more,
-            None => return after(more, SEMICOLON).ok_or(NOT_PLAIN),
+            None => return after(more, SEMICOLON).ok_or(PlainFault::NotYet),
         }
     }
 }
@@ -126,10 +132,10 @@ pub fn section<'a>(
     ensures ordered { IfOk result (λ p. All (λ b. IsInterval b.bounds) p.0.items) }
 {
     let mut found = Vec::new(alloc);
-    let mut rest = after(tokens, OPEN_BRACE).ok_or(NOT_PLAIN)?;
+    let mut rest = after(tokens, OPEN_BRACE).ok_or(PlainFault::NotYet)?;
     while let Some(more) = after(rest, TokenKind::Keyword(keyword::REAL)) {
         rest = declaration(alloc, text, more, &mut found, budget)?;
     }
-    let rest = after(rest, CLOSE_BRACE).ok_or(NOT_PLAIN)?;
+    let rest = after(rest, CLOSE_BRACE).ok_or(PlainFault::NotYet)?;
     Ok((found, rest))
 }

@@ -10,5 +10,5 @@ mod parts;
 mod right;
 mod source;
 
-pub use parts::{Boxed, Place, PlainFault, PlainParts};
+pub use parts::{Boxed, PlainFault, PlainParts};
 pub use source::plain;

@@ -24,7 +24,11 @@ impl Names {
     pub fn column(&self, name: &str) -> Option<usize> {
         match place_of(&self.states, name) {
             Some(place) => Some(place),
-            None => Some(self.states.len().saturating_add(place_of(&self.inputs, name)?)),
+            None => Some(
+                self.states
+                    .len()
+                    .saturating_add(place_of(&self.inputs, name)?),
+            ),
         }
     }
 }

@@ -1,5 +1,6 @@
 ghost use Rattle.std.specs.Prelude.{◌≡◌, ◌<◌, length, All, IfOk, IfSome};
-ghost use Rattle.hys_parse.specs.Parts.{IsNext, AreTermsBelow};
+ghost use Rattle.hys_parse.specs.Parts.{IsNext};
+ghost use Rattle.hys_lin.specs.Over.{AreTermsOver};
 
 use hys_frac::{Frac, List};
 use hys_lin::Affine;
@@ -41,7 +42,7 @@ impl Next {
     pub fn define(&mut self, state: usize, form: Affine) -> bool
         requires known { state < length self.old.forms.items }
         requires before { IsNext self.old }
-        requires form { AreTermsBelow self.old.columns form.terms }
+        requires form { AreTermsOver self.old.columns form.terms }
         ensures long { length self.new.forms.items ≡ length self.old.forms.items }
         ensures over { self.new.columns ≡ self.old.columns }
         ensures kept { IsNext self.new }

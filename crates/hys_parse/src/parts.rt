@@ -5,14 +5,6 @@ use hys_frac::{List, Text};
 use hys_lin::{Affine, Interval};
 use std::alloc::{AllocError, AllocFailed};
 
-/// A place in a source: the byte, from 0, and its line and column, from 1.
-#[derive(Clone, Copy, Debug, PartialEq, Eq)]
-pub struct Place {
-    pub byte: u32,
-    pub line: u32,
-    pub col: u32,
-}
-
 /// A declared name with its box.
 #[derive(Clone, Debug, PartialEq, Eq, Drop)]
 pub struct Boxed {
@@ -33,7 +25,7 @@ pub struct PlainParts {
 /// Why a source wasn't read: it isn't plain, or memory was wanting.
 #[derive(Clone, Copy, Debug, PartialEq, Eq)]
 pub enum PlainFault {
-    NotYet(Place),
+    NotYet,
     Memory,
 }
 
@@ -52,10 +44,3 @@ impl<T: Drop> From<AllocFailed<T>> for PlainFault {
         PlainFault::Memory
     }
 }
-
-// That a source isn't plain, wherever that shows.
-pub const NOT_PLAIN: PlainFault = PlainFault::NotYet(Place {
-    byte: 0,
-    line: 1,
-    col: 1,
-});

@@ -1,18 +1,22 @@
 ghost use Rattle.std.specs.Prelude.{◌≡◌, ◌<◌, ◌≤◌, ◌^◌, ◌+◌, length, IfOk, OnOk, IfSome, if◌then◌else◌};
 ghost use Rattle.hys_number.specs.Ops.{neg};
-ghost use Rattle.hys_parse.specs.Parts.{AreTermsBelow, count_of};
+ghost use Rattle.hys_parse.specs.Parts.{count_of};
+ghost use Rattle.hys_lin.specs.Over.{AreTermsOver};
 
-use crate::names::Names;
 use crate::cursor::{after, digits, word};
-use crate::parts::{NOT_PLAIN, PlainFault};
+use crate::names::Names;
+use crate::parts::PlainFault;
 use hys_frac::{Frac, List};
 use hys_lex::{Token, TokenKind, sign};
 use hys_lin::{Affine, Term};
 use std::alloc::{AllocError, Global};
 
 const PLUS: TokenKind = TokenKind::Sign(sign::PLUS);
+
 const MINUS: TokenKind = TokenKind::Sign(sign::MINUS);
+
 const SEMICOLON: TokenKind = TokenKind::Sign(sign::SEMICOLON);
+
 const TIMES: TokenKind = TokenKind::Sign(sign::TIMES);
 
 // A part of a right side: a number, and the name that it multiplies, if any.
@@ -39,7 +43,14 @@ fn read_part<'t, 'a>(text: &'t [u8], tokens: &'a [Token]) -> Option<(Part<'t>, &
     let (number, rest) = digits(text, tokens)?;
     let number = Frac::whole(number);
     match after(rest, TIMES) {
-        None => Some((Part { number, name: None, nodes: 1 }, rest)),
+        None => Some((
+            Part {
+                number,
+                name: None,
+                nodes: 1,
+            },
+            rest,
+        )),
         Some(rest) => {
             let (name, rest) = word(text, rest, TokenKind::Name)?;
             let scaled = Part {
@@ -105,7 +116,7 @@ impl Sum {
     // The form, its terms in the order of the columns and without those of factor 0.
     fn form(&self, alloc: Global) -> Result<Affine, AllocError>
         requires { length self.now.factors.items < 2 ^ 32 }
-        ensures { IfOk result (λ f. AreTermsBelow (length self.now.factors.items) f.terms) }
+        ensures { IfOk result (λ f. AreTermsOver (length self.now.factors.items) f.terms) }
     {
         let mut terms = Vec::new(alloc);
         for (column, factor) in self.factors.iter().enumerate() {
@@ -121,8 +132,8 @@ impl Sum {
 // Adds the column's term behind those of lower columns, where it has a factor other than 0.
 #[tactic(auto, using(crate::proofs::Terms::below_push, crate::proofs::Terms::below_next, crate::proofs::Terms::not_zero))]
 fn push_term(terms: &mut Vec<Term>, column: u32, factor: Option<Frac>) -> Result<(), AllocError>
-    requires { AreTermsBelow column terms.old.items }
-    ensures { OnOk result (AreTermsBelow (column + 1) terms.new.items) }
+    requires { AreTermsOver column terms.old.items }
+    ensures { OnOk result (AreTermsOver (column + 1) terms.new.items) }
 {
     if let Some(factor) = factor {
         if factor.num() != 0 {
@@ -142,7 +153,7 @@ pub fn right_side<'a>(
 ) -> Result<(Affine, u32, &'a [Token]), PlainFault>
     requires { count_of names.now < 2 ^ 32 }
     ensures shorter { IfOk result (λ p. length p.2.now < length tokens.now) }
-    ensures form { IfOk result (λ p. AreTermsBelow (count_of names.now) p.0.terms) }
+    ensures form { IfOk result (λ p. AreTermsOver (count_of names.now) p.0.terms) }
 {
     let mut sum = Sum::new(alloc, names.count())?;
     let leading = after(tokens, MINUS);
@@ -152,10 +163,10 @@ pub fn right_side<'a>(
     loop {
         let (part, more) = match read_part(text, rest) {
             Some(read) => read,
-            None => return Err(NOT_PLAIN),
+            None => return Err(PlainFault::NotYet),
         };
         let number = signed(part.number, negative);
-        sum.add(part.name, number, names).ok_or(NOT_PLAIN)?;
+        sum.add(part.name, number, names).ok_or(PlainFault::NotYet)?;
         nodes = nodes.saturating_add(part.nodes);
         if let Some(more) = after(more, SEMICOLON) {
             return Ok((sum.form(alloc)?, nodes, more));
@@ -163,6 +174,6 @@ pub fn right_side<'a>(
         nodes = nodes.saturating_add(1);
         negative = after(more, PLUS).is_none();
         let sign = if negative { MINUS } else { PLUS };
-        rest = after(more, sign).ok_or(NOT_PLAIN)?;
+        rest = after(more, sign).ok_or(PlainFault::NotYet)?;
     }
 }

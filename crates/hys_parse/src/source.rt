@@ -1,14 +1,15 @@
 ghost use Rattle.std.specs.Prelude.{◌≡◌, ◌<◌, ◌≤◌, ◌^◌, ◌-◌, ◌++◌, length, map, All, IfOk, OnOk, IfSome};
 ghost use Rattle.hys_frac.specs.Differ.{Differ};
 ghost use Rattle.hys_lin.specs.Sums.{IsInterval};
-ghost use Rattle.hys_parse.specs.Parts.{IsNext, AreParts, AreTermsBelow, count_of, name_of};
+ghost use Rattle.hys_parse.specs.Parts.{IsNext, AreParts, count_of, name_of};
+ghost use Rattle.hys_lin.specs.Over.{AreTermsOver};
 
 use crate::budget::Budget;
 use crate::cursor::{after, after_all, word};
 use crate::declare::section;
-use crate::next::Next;
 use crate::names::{Names, differ, place_of};
-use crate::parts::{Boxed, NOT_PLAIN, PlainFault, PlainParts};
+use crate::next::Next;
+use crate::parts::{Boxed, PlainFault, PlainParts};
 use crate::right::right_side;
 use hys_frac::{List, Text};
 use hys_lex::{LexFault, Token, TokenKind, keyword, sign, tokens};
@@ -16,7 +17,9 @@ use hys_lin::Affine;
 use std::alloc::Global;
 
 const OPEN_BRACE: TokenKind = TokenKind::Sign(sign::OPEN_BRACE);
+
 const EQUALS: TokenKind = TokenKind::Sign(sign::EQUALS);
+
 const CLOSE_BRACE: TokenKind = TokenKind::Sign(sign::CLOSE_BRACE);
 
 const NAMES: usize = 200;
@@ -32,7 +35,7 @@ fn interface<'a>(
     ensures inputs { IfOk result (λ p. All (λ b. IsInterval b.bounds) p.0.inputs.items) }
 {
     let opening = [TokenKind::Keyword(keyword::INTERFACE), OPEN_BRACE];
-    let mut rest = after_all(tokens, &opening).ok_or(NOT_PLAIN)?;
+    let mut rest = after_all(tokens, &opening).ok_or(PlainFault::NotYet)?;
     let mut states = Vec::new(alloc);
     let mut inputs = Vec::new(alloc);
     let mut states_met = false;
@@ -40,7 +43,7 @@ fn interface<'a>(
     loop {
         if let Some(more) = after(rest, TokenKind::Keyword(keyword::STATE)) {
             if states_met {
-                return Err(NOT_PLAIN);
+                return Err(PlainFault::NotYet);
             }
             states_met = true;
             (states, rest) = match section(alloc, text, more, budget) {
@@ -49,7 +52,7 @@ fn interface<'a>(
             };
         } else if let Some(more) = after(rest, TokenKind::Keyword(keyword::INPUT)) {
             if inputs_met {
-                return Err(NOT_PLAIN);
+                return Err(PlainFault::NotYet);
             }
             inputs_met = true;
             (inputs, rest) = match section(alloc, text, more, budget) {
@@ -60,7 +63,7 @@ fn interface<'a>(
             break;
         }
     }
-    let rest = after(rest, CLOSE_BRACE).ok_or(NOT_PLAIN)?;
+    let rest = after(rest, CLOSE_BRACE).ok_or(PlainFault::NotYet)?;
     Ok((Names { states, inputs }, rest))
 }
 
@@ -82,16 +85,16 @@ fn item<'a>(
     ensures over { next.new.columns ≡ next.old.columns }
     ensures kept { IsNext next.new }
 {
-    let (name, rest) = word(text, tokens, TokenKind::Name).ok_or(NOT_PLAIN)?;
-    let state = place_of(&names.states, name).ok_or(NOT_PLAIN)?;
-    let rest = after(rest, EQUALS).ok_or(NOT_PLAIN)?;
+    let (name, rest) = word(text, tokens, TokenKind::Name).ok_or(PlainFault::NotYet)?;
+    let state = place_of(&names.states, name).ok_or(PlainFault::NotYet)?;
+    let rest = after(rest, EQUALS).ok_or(PlainFault::NotYet)?;
     let (form, nodes, rest) = match right_side(alloc, text, rest, names) {
         Ok(read) => read,
         Err(fault) => return Err(fault),
     };
     budget.take_expression(nodes)?;
     if !next.define(state, form) {
-        return Err(NOT_PLAIN);
+        return Err(PlainFault::NotYet);
     }
     Ok(rest)
 }
@@ -113,7 +116,7 @@ fn items<'a>(
     ensures over { next.new.columns ≡ next.old.columns }
     ensures kept { IsNext next.new }
 {
-    let mut rest = after(tokens, OPEN_BRACE).ok_or(NOT_PLAIN)?;
+    let mut rest = after(tokens, OPEN_BRACE).ok_or(PlainFault::NotYet)?;
     loop {
         if let Some(rest) = after(rest, CLOSE_BRACE) {
             return Ok(rest);
@@ -132,19 +135,19 @@ fn implementation<'a>(
 ) -> Result<(Vec<Affine>, &'a [Token]), PlainFault>
     requires { count_of names.now ≤ 200 }
     ensures each { IfOk result (λ p. length p.0.items ≡ length names.now.states.items) }
-    ensures forms { IfOk result (λ p. All (λ f. AreTermsBelow (count_of names.now) f.terms) p.0.items) }
+    ensures forms { IfOk result (λ p. All (λ f. AreTermsOver (count_of names.now) f.terms) p.0.items) }
 {
     let opening = [TokenKind::Keyword(keyword::IMPLEMENTATION), OPEN_BRACE];
-    let rest = after_all(tokens, &opening).ok_or(NOT_PLAIN)?;
+    let rest = after_all(tokens, &opening).ok_or(PlainFault::NotYet)?;
     let mut next = Next::new(alloc, names.states.len(), names.count())?;
     let rest = match after(rest, TokenKind::Keyword(keyword::CONTINUOUS)) {
         Some(more) => items(alloc, text, more, names, &mut next, budget)?,
         None => rest,
     };
-    let rest = after(rest, CLOSE_BRACE).ok_or(NOT_PLAIN)?;
+    let rest = after(rest, CLOSE_BRACE).ok_or(PlainFault::NotYet)?;
     match next.all() {
         Some(forms) => Ok((forms, rest)),
-        None => Err(NOT_PLAIN),
+        None => Err(PlainFault::NotYet),
     }
 }
 
@@ -157,19 +160,19 @@ fn implementation<'a>(
 ///
 /// # Errors
 ///
-/// `NotYet`, at the first place of the text, where the source isn't plain.
+/// `NotYet` where the source isn't plain.
 pub fn plain(alloc: Global, text: &[u8]) -> Result<PlainParts, PlainFault>
     requires { length text.now < 2 ^ 32 - 1 }
     ensures { IfOk result AreParts }
 {
     // A `/` divides or begins a comment, so it stands in no plain source.
     if text.contains(&b'/') {
-        return Err(NOT_PLAIN);
+        return Err(PlainFault::NotYet);
     }
     match tokens(alloc, text) {
         Ok(tokens) => read(alloc, text, &tokens),
         Err(LexFault::Memory) => Err(PlainFault::Memory),
-        Err(_) => Err(NOT_PLAIN),
+        Err(_) => Err(PlainFault::NotYet),
     }
 }
 
@@ -178,27 +181,27 @@ fn read(alloc: Global, text: &[u8], tokens: &[Token]) -> Result<PlainParts, Plai
     ensures { IfOk result AreParts }
 {
     let mut budget = Budget::new();
-    let rest = after(tokens, TokenKind::Keyword(keyword::SYSTEM)).ok_or(NOT_PLAIN)?;
-    let (system, rest) = word(text, rest, TokenKind::Name).ok_or(NOT_PLAIN)?;
+    let rest = after(tokens, TokenKind::Keyword(keyword::SYSTEM)).ok_or(PlainFault::NotYet)?;
+    let (system, rest) = word(text, rest, TokenKind::Name).ok_or(PlainFault::NotYet)?;
     let system = Text::of(String::from_str(alloc, system)?);
-    let rest = after(rest, OPEN_BRACE).ok_or(NOT_PLAIN)?;
+    let rest = after(rest, OPEN_BRACE).ok_or(PlainFault::NotYet)?;
     let (names, rest) = match interface(alloc, text, rest, &mut budget) {
         Ok(read) => read,
         Err(fault) => return Err(fault),
     };
     if names.states.len() > NAMES || names.inputs.len() > NAMES - names.states.len() {
-        return Err(NOT_PLAIN);
+        return Err(PlainFault::NotYet);
     }
     if !differ(&names.states, &names.inputs) {
-        return Err(NOT_PLAIN);
+        return Err(PlainFault::NotYet);
     }
     let (next, rest) = match implementation(alloc, text, rest, &names, &mut budget) {
         Ok(read) => read,
         Err(fault) => return Err(fault),
     };
-    let rest = after(rest, CLOSE_BRACE).ok_or(NOT_PLAIN)?;
+    let rest = after(rest, CLOSE_BRACE).ok_or(PlainFault::NotYet)?;
     if !rest.is_empty() {
-        return Err(NOT_PLAIN);
+        return Err(PlainFault::NotYet);
     }
     Ok(parts(system, names, next))
 }
@@ -210,7 +213,7 @@ fn parts(system: Text, names: Names, next: Vec<Affine>) -> PlainParts
     requires few { count_of names ≤ 200 }
     requires differ { Differ (map name_of (names.states.items ++ names.inputs.items)) }
     requires each { length next.items ≡ length names.states.items }
-    requires forms { All (λ f. AreTermsBelow (count_of names) f.terms) next.items }
+    requires forms { All (λ f. AreTermsOver (count_of names) f.terms) next.items }
     ensures { AreParts result }
 {
     let Names { states, inputs } = names;

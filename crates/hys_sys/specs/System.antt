@@ -2,8 +2,8 @@
 use Rattle.std.specs.Prelude.{◌≡◌, ℕ, ◌+◌, ◌*◌, ◌<◌, ◌≤◌, List, [], ◌∷◌, ◌++◌, length, map, All, false}
 use Rattle.hys_number.specs.Ops.{whole}
 use Rattle.hys_frac.specs.Differ.{Differ}
-use Rattle.hys_lin.specs.Sums.{AreTerms, EachColumn, IsInterval}
-use Rattle.hys_lin.specs.declared.form.Term.{Term}
+use Rattle.hys_lin.specs.Sums.{IsInterval}
+use Rattle.hys_lin.specs.Over.{AreTermsOver}
 use Rattle.hys_lin.specs.declared.form.Interval.{Interval}
 use Rattle.hys_sys.specs.declared.system.ColumnRole.{ColumnRole}
 use Rattle.hys_sys.specs.declared.system.ColumnRole.TheVariants.{State, Input, D, Z}
@@ -40,11 +40,6 @@ states (c ∷ cs) = one_if_state c.role + states cs
 abbrev pub IsBox : Kind2 → Interval → Type 0
 IsBox Real i = IsInterval i
 IsBox Bool i = (i.low ≡ whole 0) × (i.high ≡ whole 1)
-
--- terms over so many columns, which rise, with no factor 0
-pub record AreTermsOver (columns : ℕ) (ts : List Term) : Type 0 where
-  pub rise : AreTerms ts
-  pub below : EachColumn (λ c. c < columns) ts
 
 abbrev pub names : System → List (List ℕ)
 names s = map (λ (c : Column). c.name) s.columns ++ map (λ (o : Output). o.name) s.outputs
