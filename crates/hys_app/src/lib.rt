@@ -1,0 +1,13 @@
+//! What the program does with its words, over files and a sink.
+#![tactic(auto)]
+
+mod build;
+mod compile;
+mod lines;
+mod say;
+mod status;
+mod top;
+mod words;
+
+pub use status::Status;
+pub use top::run;
