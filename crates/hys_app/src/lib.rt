@@ -6,6 +6,8 @@ mod compile;
 mod lines;
 mod say;
 mod status;
+#[cfg(test)]
+mod tests;
 mod top;
 mod words;
 
