@@ -4,7 +4,9 @@
 mod form;
 mod lost;
 mod problem;
+mod sum;
 
 pub use form::{Affine, Interval, Point, Row, Term};
 pub use lost::{LinFault, Lost, Op};
 pub use problem::Problem;
+pub use sum::{dot, row_holds, value};
