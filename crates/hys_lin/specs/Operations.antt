@@ -34,3 +34,8 @@ plus a b = record { op = Add; left = a; right = b }
 abbrev pub summing : Number → List Term → (Term → Number) → List Lost
 summing start [] at = []
 summing start (t ∷ ts) at = times t.factor (at t) ∷ plus start (t.factor *ₙ at t) ∷ summing (start +ₙ t.factor *ₙ at t) ts at
+
+-- the sum of factor times number over the terms, with the number that `at` gives to a term
+abbrev pub sum_by : List Term → (Term → Number) → Number
+sum_by [] at = whole 0
+sum_by (t ∷ ts) at = t.factor *ₙ at t +ₙ sum_by ts at
