@@ -4,9 +4,11 @@
 mod form;
 mod lost;
 mod problem;
+mod range;
 mod sum;
 
 pub use form::{Affine, Interval, Point, Row, Term};
 pub use lost::{LinFault, Lost, Op};
 pub use problem::Problem;
+pub use range::range_of;
 pub use sum::{dot, row_holds, value};

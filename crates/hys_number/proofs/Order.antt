@@ -1,10 +1,11 @@
-use Rattle.std.proofs.Common.{◌≡◌, ℕ, ◌+◌, ◌*◌, ◌-◌, ◌<◌, ◌≤◌, ◌↔◌, ◌⊎◌, ◌∙◌, arith, mul-pos, mul-le-mul_right, List, [], ◌∷◌, All, inl, inr, ⊎_elim}
+use Rattle.std.proofs.Common.{pos, negsuc, suc, ◌≡◌, ℕ, ◌+◌, ◌*◌, ◌-◌, ◌<◌, ◌≤◌, ◌↔◌, ◌⊎◌, ◌∙◌, arith, mul-pos, mul-le-mul_right, List, [], ◌∷◌, All, inl, inr, ⊎_elim}
 use Rattle.std.proofs.lemmas.List.Elements.{All-head, All-tail}
 use Rattle.hys_number.specs.Number.{Number}
-use Rattle.hys_number.specs.Ops.{◌+ₙ◌, ◌*ₙ◌, ◌-ₙ◌, ◌≤ₙ◌, ◌<ₙ◌, whole}
+use Rattle.hys_number.specs.Ops.{◌+ₙ◌, ◌*ₙ◌, ◌-ₙ◌, neg, ◌≤ₙ◌, ◌<ₙ◌, whole}
 use Rattle.hys_number.proofs.Laws.{ratio, mul-ratio, le-ratio, whole-ratio}
-use Rattle.hys_number.proofs.Field.{mul_zero}
-use Rattle.hys_number.proofs.Scale.{overs, same-over, le-over, common1, common1_of, common2, common2_of, common3, common3_of}
+use Rattle.hys_number.proofs.Inverse.{number_at}
+use Rattle.hys_number.proofs.Field.{neg-mul, mul_zero}
+use Rattle.hys_number.proofs.Scale.{overs, same-over, le-over, common1, common1_of, common2, common2_of, common3, common3_of, common4, common4_of, lt-over}
 
 -- ---- the order
 pub le_antisymm : (a b : Number) → a ≤ₙ b → b ≤ₙ a → a ≡ b
@@ -97,3 +98,26 @@ le_of_lt a b = elim (common2_of a b) [ common2 D h p1 n1 p2 n2 e1 e2 ↦ rw (e1,
 
 pub lt_of_le-lt : (a b c : Number) → a ≤ₙ b → b <ₙ c → a <ₙ c
 lt_of_le-lt a b c = elim (common3_of a b c) [ common3 D h p1 n1 p2 n2 p3 n3 e1 e2 e3 ↦ rw (e1, e2, e3) (simp overs (omega arith)) ]
+
+pub lt_of_lt-le : (a b c : Number) → a <ₙ b → b ≤ₙ c → a <ₙ c
+lt_of_lt-le a b c = elim (common3_of a b c) [ common3 D h p1 n1 p2 n2 p3 n3 e1 e2 e3 ↦ rw (e1, e2, e3) (simp overs (omega arith)) ]
+
+pub add-le-add : (a b c d : Number) → a ≤ₙ c → b ≤ₙ d → a +ₙ b ≤ₙ c +ₙ d
+add-le-add a b c d = elim (common4_of a b c d) [ common4 D h p1 n1 p2 n2 p3 n3 p4 n4 e1 e2 e3 e4 ↦ rw (e1, e2, e3, e4) (simp overs (omega arith)) ]
+
+pub neg-le-neg : (a b : Number) → (a ≤ₙ b) ↔ (neg b ≤ₙ neg a)
+neg-le-neg a b = elim (common2_of a b) [ common2 D h p1 n1 p2 n2 e1 e2 ↦ rw (e1, e2) (simp overs (omega arith)) ]
+
+pub neg_of_le_zero : (a : Number) → a ≤ₙ whole 0 → whole 0 ≤ₙ neg a
+neg_of_le_zero a = elim (common1_of a) [ common1 D h p1 n1 e1 ↦ rw (e1) (simp (overs, whole-ratio 0 D h) (omega arith)) ]
+
+-- a factor of at most 0 turns the order
+pub mul-le-mul_left_neg : (y a b : Number) → y ≤ₙ whole 0 → a ≤ₙ b → y *ₙ b ≤ₙ y *ₙ a
+mul-le-mul_left_neg y a b l m = (neg-le-neg (y *ₙ b) (y *ₙ a)).1 (rw (← neg-mul y a, ← neg-mul y b) (mul-le-mul_left (neg y) a b (neg_of_le_zero y l) m))
+
+-- ---- the sign of a number is that of its first part
+pub at_least_zero : (a : Number) (n : ℕ) → a.num ≡ pos n → whole 0 ≤ₙ a
+at_least_zero a n e = rw (number_at a (pos n) e, whole-ratio 0 a.den a.positive) ((le-over a.den a.positive (0 * a.den) 0 n 0).1 (omega arith))
+
+pub below_zero : (a : Number) (n : ℕ) → a.num ≡ negsuc n → a <ₙ whole 0
+below_zero a n e = rw (number_at a (negsuc n) e, whole-ratio 0 a.den a.positive) ((lt-over a.den a.positive 0 (suc n) (0 * a.den) 0).1 (omega arith))
