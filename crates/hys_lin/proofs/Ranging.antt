@@ -1,6 +1,6 @@
-use Rattle.std.proofs.Common.{◌≡◌, ℕ, ◌<◌, List, [], ◌∷◌, length, ℤ, pos, negsuc, Bool, true, false, refl, sym, ap, subst, ◌∙◌}
+use Rattle.std.proofs.Common.{◌≡◌, ◌<◌, List, [], ◌∷◌, length, ℤ, pos, negsuc, true, false, refl}
 use Rattle.hys_number.specs.Number.{Number}
-use Rattle.hys_number.specs.Ops.{◌+ₙ◌, ◌*ₙ◌, ◌≤ₙ◌, whole}
+use Rattle.hys_number.specs.Ops.{◌*ₙ◌, ◌≤ₙ◌, whole}
 use Rattle.hys_number.proofs.Field.{add_comm}
 use Rattle.hys_number.proofs.Order.{le_refl', le_of_lt, add-le-add, mul-le-mul_left, mul-le-mul_left_neg, at_least_zero, below_zero}
 use Rattle.hys_lin.specs.declared.form.Term.{Term}

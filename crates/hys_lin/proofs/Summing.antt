@@ -1,12 +1,12 @@
-use Rattle.std.proofs.Common.{◌≡◌, ℕ, ◌+◌, ◌<◌, ◌≤◌, List, [], ◌∷◌, ◌++◌, length, drop, get_or, Option, Some, None, Bool, true, false, cond, refl, sym, ◌∙◌, ap, subst, arith, add-one}
+use Rattle.std.proofs.Common.{◌≡◌, ℕ, ◌+◌, ◌<◌, ◌≤◌, List, [], ◌∷◌, ◌++◌, length, drop, get_or, Option, Some, None, Bool, true, false, cond, refl, sym, ◌∙◌, ap, add-one}
 use Rattle.std.proofs.Math.Seq.{drop-cons}
 use Rattle.std.proofs.lemmas.List.{drop_all}
 use Rattle.hys_number.specs.Number.{Number}
-use Rattle.hys_number.specs.Ops.{◌+ₙ◌, ◌*ₙ◌, whole, fits}
+use Rattle.hys_number.specs.Ops.{◌+ₙ◌, ◌*ₙ◌, fits}
 use Rattle.hys_number.proofs.Field.{add_assoc, add_zero}
 use Rattle.hys_lin.specs.declared.form.Term.{Term}
 use Rattle.hys_lin.specs.declared.lost.Lost.{Lost}
-use Rattle.hys_lin.specs.Sums.{Assignment, sum_of, EachColumn, AreTerms}
+use Rattle.hys_lin.specs.Sums.{Assignment, sum_of, EachColumn}
 use Rattle.hys_lin.specs.Operations.{first_lost, outcome, times, plus, summing, sum_by}
 
 -- operations that all fit stand before the first that doesn't

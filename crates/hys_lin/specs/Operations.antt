@@ -1,9 +1,8 @@
 -- The operations of a computation in their order, and the first of them whose outcome doesn't fit.
-use Rattle.std.specs.Prelude.{List, [], ◌∷◌, ◌++◌, ℕ, Bool, true, false, Option, Some, None, nat_eq, cond, map}
+use Rattle.std.specs.Prelude.{List, [], ◌∷◌, Option, Some, None, cond}
 use Rattle.hys_number.specs.Number.{Number}
 use Rattle.hys_number.specs.Ops.{◌+ₙ◌, ◌-ₙ◌, ◌*ₙ◌, ◌/ₙ◌, whole, fits}
 use Rattle.hys_lin.specs.declared.form.Term.{Term}
-use Rattle.hys_lin.specs.declared.form.Affine.{Affine}
 use Rattle.hys_lin.specs.declared.lost.Lost.{Lost}
 use Rattle.hys_lin.specs.declared.lost.Op.TheVariants.{Add, Sub, Mul, Div}
 use Rattle.hys_lin.specs.declared.lost.Op.{Op}

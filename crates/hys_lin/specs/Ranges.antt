@@ -2,7 +2,7 @@
 use Rattle.std.specs.Prelude.{List, ℕ, ◌<◌, Bool, true, false, ℤ, pos, negsuc, length}
 use Rattle.std.proofs.Common.{get_or}
 use Rattle.hys_number.specs.Number.{Number}
-use Rattle.hys_number.specs.Ops.{◌+ₙ◌, ◌≤ₙ◌, whole}
+use Rattle.hys_number.specs.Ops.{◌+ₙ◌, whole}
 use Rattle.hys_lin.specs.declared.form.Term.{Term}
 use Rattle.hys_lin.specs.declared.form.Affine.{Affine}
 use Rattle.hys_lin.specs.declared.form.Interval.{Interval}

@@ -1,15 +1,12 @@
-use Rattle.std.proofs.Common.{rules, ◌≡◌, ◌<◌, ◌++◌, [], ◌∷◌, List, length, get_or, IfOk, IsTrue, ◌↔◌, ℕ, ◌+◌, ◌*◌, ◌≤◌, drop, arith, ◌∙◌, ap, sym, subst, pos, Option, Some, None, Bool, true, false, refl}
+use Rattle.std.proofs.Common.{◌≡◌, ◌<◌, ◌∷◌, List, length, get_or, ℕ, ◌+◌, ◌≤◌, drop, arith, ◌∙◌, ap, sym, subst, refl}
 use Rattle.std.proofs.lemmas.List.{get_or_read}
-use Rattle.hys_number.specs.Number.{Number}
-use Rattle.hys_number.specs.Ops.{◌+ₙ◌, ◌*ₙ◌, whole}
-use Rattle.hys_lin.specs.Sums.{Assignment, sum_of, value, EachColumn, at, Holds}
-use Rattle.hys_lin.specs.Operations.{first_lost, summing, sum_by}
-use Rattle.hys_lin.specs.Ranges.{InBoxes, box_at, end_by_sign, end_at, end_of}
-use Rattle.hys_lin.specs.declared.lost.Lost.{Lost}
+use Rattle.hys_number.specs.Ops.{◌+ₙ◌, whole}
+use Rattle.hys_lin.specs.Sums.{EachColumn}
+use Rattle.hys_lin.specs.Operations.{sum_by}
+use Rattle.hys_lin.specs.Ranges.{box_at, end_by_sign, end_at}
 use Rattle.hys_lin.specs.declared.form.Term.{Term}
 use Rattle.hys_lin.specs.declared.form.Interval.{Interval}
-use Rattle.hys_lin.proofs.Summing.{drop_here, columns_next, value_next, lost_next, sum_ended, lost_after, lost_before}
-use Rattle.hys_lin.proofs.Ranging.{range_holds}
+use Rattle.hys_lin.proofs.Summing.{drop_here, columns_next, value_next, lost_next, sum_ended}
 use Rattle.hys_lin.proofs.range.end.Goals as goal
 
 box_is : (boxes : List Interval) (c : ℕ) (i : Interval) → c < length boxes → i ≡ get_or boxes c i → i ≡ box_at boxes c

@@ -1,4 +1,4 @@
-use Rattle.std.proofs.Common.{◌≡◌, ◌<◌, ℕ, length, drop}
+use Rattle.std.proofs.Common.{◌≡◌, ◌<◌, length, drop}
 use Rattle.hys_number.specs.Ops.{◌+ₙ◌}
 use Rattle.hys_lin.specs.Sums.{EachColumn}
 use Rattle.hys_lin.specs.Operations.{first_lost, summing, sum_by}

@@ -1,13 +1,11 @@
-use Rattle.std.proofs.Common.{rules, ◌≡◌, ◌<◌, ◌++◌, [], ◌∷◌, List, length, IfOk, IsTrue, ◌↔◌, ℕ, ◌+◌, ◌*◌, ◌≤◌, drop, arith, ◌∙◌, ap, sym, subst, pos, Option}
+use Rattle.std.proofs.Common.{◌∙◌, ap}
 use Rattle.std.proofs.lemmas.Result.{IfOk-weaker}
-use Rattle.hys_number.specs.Number.{Number, make}
-use Rattle.hys_number.specs.Ops.{◌+ₙ◌, ◌*ₙ◌, whole}
-use Rattle.hys_number.proofs.Field.{add_comm}
+use Rattle.hys_number.specs.Number.{Number}
+use Rattle.hys_number.specs.Ops.{◌+ₙ◌}
 use Rattle.hys_number.proofs.Cancel.{zero_add}
 use Rattle.hys_frac.proofs.Fracs.{one_reduced, whole_make}
-use Rattle.hys_lin.specs.Sums.{sum_of, value, EachColumn, at, Holds}
+use Rattle.hys_lin.specs.Sums.{sum_of, at}
 use Rattle.hys_lin.specs.Operations.{first_lost, summing}
-use Rattle.hys_lin.specs.declared.lost.Lost.{Lost}
 use Rattle.hys_lin.specs.declared.form.Term.{Term}
 use Rattle.hys_lin.proofs.sum.dot.Goals as goal
 

@@ -1,9 +1,7 @@
-use Rattle.std.proofs.Common.{rules, get_or, ◌≡◌, ◌<◌, ◌++◌, [], ◌∷◌, length, IfOk, IsTrue, ◌↔◌, ℕ, ◌+◌, ◌*◌, ◌≤◌, drop, arith, ◌∙◌, ap, List}
+use Rattle.std.proofs.Common.{rules, get_or, ◌≡◌, ◌<◌, ◌∷◌, length, ℕ, ◌+◌, ◌≤◌, drop, arith, ◌∙◌, ap, List}
 use Rattle.hys_number.specs.Number.{Number}
-use Rattle.hys_number.specs.Ops.{◌+ₙ◌, ◌*ₙ◌, whole}
-use Rattle.hys_lin.specs.Sums.{sum_of, EachColumn, at}
-use Rattle.hys_lin.specs.Operations.{first_lost, times, plus, summing}
-use Rattle.hys_lin.specs.declared.form.Term.{Term}
+use Rattle.hys_number.specs.Ops.{◌+ₙ◌, whole}
+use Rattle.hys_lin.specs.Sums.{at}
 use Rattle.hys_lin.proofs.Summing.{drop_here, columns_next, value_next, lost_next, sum_by-columns, sum_ended}
 use Rattle.std.proofs.lemmas.List.{get_or_read}
 use Rattle.hys_lin.proofs.sum.sum_from.Goals as goal
