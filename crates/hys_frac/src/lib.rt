@@ -2,6 +2,7 @@
 #![tactic(auto)]
 
 mod frac;
+pub mod laws;
 mod list;
 mod reduce;
 mod text;
