@@ -14,15 +14,13 @@ pub fn ring()
     ensures mul_assoc { (a b c : Number) → a *ₙ b *ₙ c ≡ a *ₙ (b *ₙ c) }
     ensures mul_one { (a : Number) → a *ₙ whole 1 ≡ a }
     ensures mul_add { (a b c : Number) → a *ₙ (b +ₙ c) ≡ a *ₙ b +ₙ a *ₙ c }
-{
-}
+{}
 
 /// Each number but 0 has an inverse.
 pub fn field()
     ensures one { whole 0 ≢ whole 1 }
     ensures inverse { (a : Number) → a ≢ whole 0 → a *ₙ inverse a ≡ whole 1 }
-{
-}
+{}
 
 /// The order is total.
 pub fn order()
@@ -31,13 +29,11 @@ pub fn order()
     ensures trans { (a b c : Number) → a ≤ₙ b → b ≤ₙ c → a ≤ₙ c }
     ensures total { (a b : Number) → (a ≤ₙ b) ⊎ (b <ₙ a) }
     ensures strict { (a b : Number) → (a <ₙ b) ↔ ((b ≤ₙ a) → ⊥) }
-{
-}
+{}
 
 /// The order goes with sums, and with products by a number of at least 0.
 pub fn ordered()
     ensures sum { (a b c : Number) → (a ≤ₙ b) ↔ (a +ₙ c ≤ₙ b +ₙ c) }
     ensures product { (a b c : Number) → whole 0 ≤ₙ c → a ≤ₙ b → c *ₙ a ≤ₙ c *ₙ b }
     ensures turned { (a b c : Number) → c ≤ₙ whole 0 → a ≤ₙ b → c *ₙ b ≤ₙ c *ₙ a }
-{
-}
+{}
