@@ -1,2 +1,6 @@
+pub mod Comparisons
 pub mod Fracs
 pub mod Wholes
+pub mod Numerals
+pub mod Powers
+pub mod Readings

@@ -1,4 +1,5 @@
 pub mod Compare
 pub mod Frac
+pub mod Read
 pub mod Written
 pub mod Differ

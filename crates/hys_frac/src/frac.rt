@@ -204,7 +204,7 @@ fn quotient(num: i128, den: i128) -> Option<Frac>
 }
 
 // The number `num / den`, where it fits.
-fn reduce(num: i128, den: i128) -> Option<Frac>
+pub fn reduce(num: i128, den: i128) -> Option<Frac>
     requires above { pos 0 <ℤ den }
     requires below { unsigned_abs num < 2 ^ 127 }
     ensures value { IfSome result (λ r. r ≡ make num (unsigned_abs den)) }
@@ -218,7 +218,7 @@ fn reduce(num: i128, den: i128) -> Option<Frac>
 }
 
 // The number with these two reduced parts, where it fits.
-fn narrow(num: i128, den: i128) -> Option<Frac>
+pub fn narrow(num: i128, den: i128) -> Option<Frac>
     requires positive { pos 0 <ℤ den }
     requires reduced { gcd_of (unsigned_abs num) (unsigned_abs den) ≡ 1 }
     ensures value { IfSome result (λ r. r ≡ make num (unsigned_abs den)) }
