@@ -88,7 +88,10 @@ fn a_sink_in_memory(rt: HostRuntime) -> Result<(), Fail> {
 #[test]
 fn files_of_the_system(rt: HostRuntime) -> Result<(), Fail> {
     let alloc = rt.alloc();
-    let text = vec![in alloc; 7; 200_000]?;
+    let mut text = Vec::new(alloc);
+    for place in 0..200_000u32 {
+        text.push((place % 251) as u8)?;
+    }
     let _ = fs::remove_dir_all(&rt, "folder");
     fs::create_dir(&rt, "folder")?;
     let mut files = DiskFiles::new(rt.clone()?);
@@ -121,6 +124,7 @@ fn files_of_the_system(rt: HostRuntime) -> Result<(), Fail> {
             "{name}"
         );
     }
+    fs::remove_dir_all(&rt, "folder")?;
     Ok(())
 }
 
