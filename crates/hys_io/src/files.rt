@@ -28,11 +28,13 @@ pub trait Files {
         ensures bound { IfOk result (λ count. count ≤ length into.new) }
         ensures found { IfOk result (λ count. IfRead (held self.old) name.now at count into.new) }
         ensures same { held self.new ≡ held self.old }
-        ensures cause { IsErrOf result Failure.Fault → Rose (read_faults self.old) (read_faults self.new) }
+        ensures cause { IsErrOf result Failure.Fault
+            → Rose (read_faults self.old) (read_faults self.new) }
         ensures counted { read_faults self.old ≤ read_faults self.new }
         ensures stays { Stays (read_faults self.old) (read_faults self.new) }
         ensures calm { OnOk result (read_faults self.new ≡ read_faults self.old) }
-        ensures calm_memory { IsErrOf result Failure.Memory → read_faults self.new ≡ read_faults self.old }
+        ensures calm_memory { IsErrOf result Failure.Memory
+            → read_faults self.new ≡ read_faults self.old }
         ensures puts { put_faults self.new ≡ put_faults self.old };
 
     /// Puts the bytes under the name, in place of what it held. Other names never change.
@@ -43,12 +45,15 @@ pub trait Files {
     /// `Memory` for want of memory: nothing has changed.
     fn put(&mut self, name: &str, bytes: &[u8]) -> Result<(), Failure>
         ensures done { OnOk result (IfPut (held self.old) (held self.new) name.now bytes.now) }
-        ensures torn { IsErrOf result Failure.Fault → IfTorn (held self.old) (held self.new) name.now bytes.now }
+        ensures torn { IsErrOf result Failure.Fault
+            → IfTorn (held self.old) (held self.new) name.now bytes.now }
         ensures unchanged { IsErrOf result Failure.Memory → held self.new ≡ held self.old }
-        ensures cause { IsErrOf result Failure.Fault → Rose (put_faults self.old) (put_faults self.new) }
+        ensures cause { IsErrOf result Failure.Fault
+            → Rose (put_faults self.old) (put_faults self.new) }
         ensures counted { put_faults self.old ≤ put_faults self.new }
         ensures stays { Stays (put_faults self.old) (put_faults self.new) }
         ensures calm { OnOk result (put_faults self.new ≡ put_faults self.old) }
-        ensures calm_memory { IsErrOf result Failure.Memory → put_faults self.new ≡ put_faults self.old }
+        ensures calm_memory { IsErrOf result Failure.Memory
+            → put_faults self.new ≡ put_faults self.old }
         ensures reads { read_faults self.new ≡ read_faults self.old };
 }

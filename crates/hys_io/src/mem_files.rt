@@ -163,7 +163,8 @@ fn add(
     name: &str,
     bytes: &[u8],
 ) -> Result<(), Failure>
-    ensures ok { OnOk result (files_of files.new.items ≡ map.insert (files_of files.old.items) name.now bytes.now) }
+    ensures ok { OnOk result (files_of files.new.items
+        ≡ map.insert (files_of files.old.items) name.now bytes.now) }
     ensures err { OnErr result (files.new.items ≡ files.old.items) }
     ensures memory { IfErr result (λ e. e ≡ Failure.Memory) }
 {

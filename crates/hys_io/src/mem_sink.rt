@@ -57,7 +57,8 @@ impl Sink for MemSink {
 
     fn write(&mut self, piece: &[u8]) -> Result<usize, Failure>
         ensures some { 0 < length piece.now → IfOk result (λ count. 0 < count) }
-        ensures appended { IfOk result (λ count. IfAppended (Some self.old.written) (Some self.new.written) (take count piece.now)) }
+        ensures appended { IfOk result (λ count.
+            IfAppended (Some self.old.written) (Some self.new.written) (take count piece.now)) }
         ensures unchanged { OnErr result (Some self.new.written ≡ Some self.old.written) }
         ensures counted { self.old.faults ≤ self.new.faults }
         ensures stays { Stays self.old.faults self.new.faults }

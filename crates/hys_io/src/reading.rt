@@ -40,15 +40,20 @@ pub fn read_all<F: Files>(
     name: &str,
     limit: u64,
 ) -> Result<Vec<u8>, ReadFault>
-    ensures whole { IfOk result (λ bytes. IfHolds (F.held files.old) name.now (λ file. bytes.items ≡ file)) }
+    ensures whole { IfOk result (λ bytes.
+        IfHolds (F.held files.old) name.now (λ file. bytes.items ≡ file)) }
     ensures short { IfOk result (λ bytes. length bytes.items ≤ limit) }
-    ensures long { IsErrOf result ReadFault.TooLong → IfHolds (F.held files.old) name.now (λ file. limit < length file) }
-    ensures cause { IsErrOf result ReadFault.Fault → Rose (F.read_faults files.old) (F.read_faults files.new) }
+    ensures long { IsErrOf result ReadFault.TooLong
+        → IfHolds (F.held files.old) name.now (λ file. limit < length file) }
+    ensures cause { IsErrOf result ReadFault.Fault
+        → Rose (F.read_faults files.old) (F.read_faults files.new) }
     ensures counted { F.read_faults files.old ≤ F.read_faults files.new }
     ensures stays { Stays (F.read_faults files.old) (F.read_faults files.new) }
     ensures calm { OnOk result (F.read_faults files.new ≡ F.read_faults files.old) }
-    ensures calm_long { IsErrOf result ReadFault.TooLong → F.read_faults files.new ≡ F.read_faults files.old }
-    ensures calm_memory { IsErrOf result ReadFault.Memory → F.read_faults files.new ≡ F.read_faults files.old }
+    ensures calm_long { IsErrOf result ReadFault.TooLong
+        → F.read_faults files.new ≡ F.read_faults files.old }
+    ensures calm_memory { IsErrOf result ReadFault.Memory
+        → F.read_faults files.new ≡ F.read_faults files.old }
     ensures same { F.held files.new ≡ F.held files.old }
     ensures puts { F.put_faults files.new ≡ F.put_faults files.old }
 {

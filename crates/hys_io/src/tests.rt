@@ -2,6 +2,7 @@ use crate::{
     DiskFiles, Failure, Files, MemFiles, MemSink, ReadFault, Sink, StdSink, read_all, write_all,
 };
 use std::alloc::{AllocError, Global};
+use std::cell::Cell;
 use std::test::Fail;
 use std::{fs, io};
 
@@ -88,7 +89,10 @@ fn a_sink_in_memory(rt: HostRuntime) -> Result<(), Fail> {
 #[test]
 fn files_of_the_system(rt: HostRuntime) -> Result<(), Fail> {
     let alloc = rt.alloc();
-    let text = vec![in alloc; 7; 200_000]?;
+    let mut text = Vec::new(alloc);
+    for place in 0..200_000u32 {
+        text.push((place % 251) as u8)?;
+    }
     let _ = fs::remove_dir_all(&rt, "folder");
     fs::create_dir(&rt, "folder")?;
     let mut files = DiskFiles::new(rt.clone()?);
@@ -121,14 +125,18 @@ fn files_of_the_system(rt: HostRuntime) -> Result<(), Fail> {
             "{name}"
         );
     }
+    fs::remove_dir_all(&rt, "folder")?;
     Ok(())
 }
 
-// An output that takes no byte.
+// An output that takes one byte at a time, until it is full.
 #[derive(Drop)]
-struct Stuck;
+struct Narrow<'a> {
+    taken: &'a Cell<usize>,
+    room: usize,
+}
 
-impl Print for Stuck {
+impl Print for Narrow<'_> {
     fn print<D: std::fmt::Display + Drop>(&self, _: D) -> io::Result<()> {
         Ok(())
     }
@@ -141,8 +149,13 @@ impl Print for Stuck {
         Ok(())
     }
 
-    fn write_some(&self, _: &[u8]) -> io::Result<usize> {
-        Ok(0)
+    fn write_some(&self, bytes: &[u8]) -> io::Result<usize> {
+        let taken = self.taken.get();
+        if bytes.is_empty() || taken >= self.room {
+            return Ok(0);
+        }
+        self.taken.set(taken + 1);
+        Ok(1)
     }
 }
 
@@ -150,9 +163,15 @@ impl Print for Stuck {
 fn the_standard_output(rt: HostRuntime) -> Result<(), Fail> {
     let mut out = StdSink::new(rt.clone()?);
     assert_eq!(rt; write_all(&mut out, b"written\n"), Ok(()));
-    let mut stuck = StdSink::new(Stuck);
-    assert_eq!(rt; stuck.write(b""), Ok(0));
-    assert_eq!(rt; stuck.write(b"text"), Err(Failure::Fault));
-    assert_eq!(rt; write_all(&mut stuck, b"text"), Err(Failure::Fault));
+    let taken = Cell::new(0);
+    let mut narrow = StdSink::new(Narrow {
+        taken: &taken,
+        room: 6,
+    });
+    assert_eq!(rt; narrow.write(b""), Ok(0));
+    assert_eq!(rt; write_all(&mut narrow, b"text"), Ok(()));
+    assert_eq!(rt; taken.get(), 4);
+    assert_eq!(rt; write_all(&mut narrow, b"text"), Err(Failure::Fault));
+    assert_eq!(rt; taken.get(), 6);
     Ok(())
 }

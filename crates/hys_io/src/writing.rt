@@ -10,7 +10,8 @@ use crate::{Failure, Sink};
 /// `Fault` where a write fails, `Memory` for want of memory. A prefix of the text was then written.
 pub fn write_all<S: Sink>(out: &mut S, text: &[u8]) -> Result<(), Failure>
     ensures all { OnOk result (IfAppended (S.written out.old) (S.written out.new) text.now) }
-    ensures part { OnErr result ((n : ℕ) × IfAppended (S.written out.old) (S.written out.new) (take n text.now)) }
+    ensures part { OnErr result ((n : ℕ)
+        × IfAppended (S.written out.old) (S.written out.new) (take n text.now)) }
     ensures cause { IsErrOf result Failure.Fault → Rose (S.faults out.old) (S.faults out.new) }
     ensures counted { S.faults out.old ≤ S.faults out.new }
     ensures stays { Stays (S.faults out.old) (S.faults out.new) }

@@ -1,4 +1,4 @@
-use Rattle.std.proofs.Common.{rules, arith, ◌≡◌, ◌<◌, length, take, ◌++◌, sym, ap, ◌∙◌, subst}
+use Rattle.std.proofs.Common.{arith, ◌≡◌, ◌<◌, length, take, ◌++◌, sym, ap, ◌∙◌, subst}
 use Rattle.hys_io.specs.Outside.{IfHolds}
 use Rattle.hys_io.proofs.Buffers.{take-written_back, take-kept}
 use Rattle.hys_io.proofs.Fronts.{front_grows, front_whole}
