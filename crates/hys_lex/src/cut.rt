@@ -5,7 +5,7 @@ ghost use Rattle.hys_lex.specs.declared.token.Token.{Token as CutToken};
 ghost use Rattle.hys_lex.specs.declared.cut.LexFault.{LexFault as Fault};
 ghost use Rattle.hys_lex.specs.declared.cut.LexFault.TheVariants.{Memory};
 
-use crate::piece::{Cause, piece};
+use crate::piece::{Cause, Found, piece};
 use crate::token::Token;
 use std::alloc::{AllocFailed, Global};
 
@@ -56,8 +56,8 @@ pub fn tokens(alloc: Global, text: &[u8]) -> Result<Vec<Token>, LexFault>
     while at < text.len() {
         match piece(&text[at..]) {
             Err(cause) => return Err(fault(cause, at as u32)),
-            Ok((None, len)) => at += len,
-            Ok((Some(kind), len)) => {
+            Ok(Found::Gap(len)) => at += len,
+            Ok(Found::Token(kind, len)) => {
                 found.push(Token {
                     kind,
                     from: at as u32,
