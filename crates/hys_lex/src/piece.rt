@@ -101,8 +101,9 @@ pub fn piece(text: &[u8]) -> Result<Found, Cause>
     if first == b'/' {
         return slash(text);
     }
-    match words::sign(text) {
-        Some((k, len)) => Ok(Found::Token(TokenKind::Sign(k), len)),
-        None => Err(Cause::Byte),
+    let (k, len) = words::sign(text);
+    if len == 0 {
+        return Err(Cause::Byte);
     }
+    Ok(Found::Token(TokenKind::Sign(k), len))
 }
