@@ -1,6 +1,6 @@
 //! What holds of every cut, as calls that do nothing.
 
-ghost use Rattle.std.specs.Prelude.{◌≡◌, ℕ, List, All, AllPairs, length};
+ghost use Rattle.std.specs.Prelude.{◌≡◌, ℕ, List, All, AllPairs, IsAscii, length, slice_range};
 ghost use Rattle.hys_lex.specs.Words.{keywords, signs};
 ghost use Rattle.hys_lex.specs.Cut.{Cut, IsFirstFault, IsTokenOf, Precedes};
 ghost use Rattle.hys_lex.specs.Spaced.{Spelling, IsSpelled, spelling, spaced, spaced_tokens};
@@ -16,11 +16,13 @@ pub fn one_cut()
     ensures apart { (text : List ℕ) (fault : Fault) (tokens : List CutToken) → IsFirstFault text fault → Cut text tokens → ⊥ }
 {}
 
-/// The spans of the tokens of a cut rise within the text, and each has a token of its kind.
+/// The spans of the tokens of a cut rise within the text, and the bytes of each are a token of its kind,
+/// in ASCII.
 pub fn spans(tokens: &[Token], text: &[u8])
     requires { Cut text.now tokens.now }
     ensures each { All (IsTokenOf text.now) tokens.now }
     ensures rising { AllPairs Precedes tokens.now }
+    ensures ascii { All (λ t. IsAscii (slice_range text.now t.from t.to)) tokens.now }
     ensures spelled { All (λ t. IsSpelled (spelling text.now t)) tokens.now }
 {}
 

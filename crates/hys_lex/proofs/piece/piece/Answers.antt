@@ -24,6 +24,8 @@ returns-then-len-eq0 c =
 
 pub returns : goal.returns
 returns c =
-    let text = c.args.text.now in
-    (sign_match text _ _ (mark text (sym c.is_blank.ensures ∙ c.if-is_blank.false) (sym c.is_letter.ensures ∙ c.if-is_letter.false) (sym c.is_digit.ensures ∙ c.if-is_digit.false) c.if-first-eq46.false c.if-first-eq47.false)
-     c.sign-k.ensures.within (c.sign-k.ensures.found (omega arith)) c.sign-k.ensures.most, tt)
+    let text = c.args.text.now in (
+      sign_match text _ _ (mark text (sym c.is_blank.ensures ∙ c.if-is_blank.false) (sym c.is_letter.ensures ∙ c.if-is_letter.false) (sym c.is_digit.ensures ∙ c.if-is_digit.false) c.if-first-eq46.false c.if-first-eq47.false)
+          c.sign-k.ensures.within (c.sign-k.ensures.found (omega arith)) c.sign-k.ensures.most,
+      tt,
+    )
