@@ -1,5 +1,5 @@
 -- What has been cut so far, and that a cut and a first fault are unique.
-use Rattle.std.proofs.Common.{◌≡◌, ℕ, ◌+◌, ◌-◌, ◌<◌, ◌≤◌, List, [], ◌∷◌, ◌++◌, length, take, drop, get_or, refl, sym, ◌∙◌, ap, subst, arith, append_assoc, append-nil, inl, inr, length-drop, zero, suc, lit<, All, AllPairs, length-take-le}
+use Rattle.std.proofs.Common.{◌≡◌, ℕ, ◌+◌, ◌-◌, ◌<◌, ◌≤◌, List, [], ◌∷◌, ◌++◌, length, take, drop, get_or, refl, sym, ◌∙◌, ap, subst, arith, append_assoc, append-nil, inl, inr, length-drop, zero, suc, All, AllPairs, length-take-le}
 use Rattle.std.proofs.lemmas.List.{drop-drop, drop_all, get_or-take}
 use Rattle.std.proofs.lemmas.Bool.{cases_lt}
 use Rattle.std.proofs.lemmas.List.Elements.{All-cons}
@@ -15,6 +15,7 @@ use Rattle.hys_lex.specs.declared.cut.LexFault.TheVariants.{Byte, Comment, Long,
 use Rattle.hys_lex.specs.declared.piece.Cause.{Cause}
 use Rattle.hys_lex.specs.declared.piece.Cause.TheVariants as causes
 use Rattle.hys_lex.proofs.Opening.{one_kind, piece_some}
+use Rattle.hys_lex.proofs.Matches.{division}
 
 -- where pieces that begin at a place end
 abbrev pub reach : ℕ → List Piece → ℕ
@@ -171,10 +172,6 @@ fault_no_cut text (Long at) stop tokens cut = no_cut_at text at TooLong stop stu
 fault_no_cut text Memory stop tokens cut = stop
 
 -- two faults
-
-division : IsAt signs 15 (47 ∷ [])
-unfolding signs
-division = (lit< tt, refl)
 
 byte_comment : (rest : List ℕ) → NoPiece rest → NoEnd rest → ⊥
 byte_comment [] byte comment = no_byte_end byte

@@ -170,7 +170,7 @@ line_match text n first second two within before stops =
     not_feed zero few feed = omega (arith, first)
     not_feed (suc n) few feed = let at : suc n ≡ 1 = omega arith in omega (arith, second, ap (λ i. get_or text i 0) at)
 
-division : IsAt signs 15 (47 ∷ [])
+pub division : IsAt signs 15 (47 ∷ [])
 unfolding signs
 division = (lit< tt, refl)
 

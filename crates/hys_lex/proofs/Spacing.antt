@@ -1,5 +1,5 @@
 -- A token that a space follows is the longest match at its place.
-use Rattle.std.proofs.Common.{◌≡◌, ◌<◌, ◌≤◌, ◌+◌, ℕ, List, [], ◌∷◌, ◌++◌, length, get_or, take, drop, Bool, true, not, eqb, ltb, ◌&&◌, refl, sym, ◌∙◌, ap, subst, arith, inl, inr, All, length-append, length-drop, slice_range, ◌-◌}
+use Rattle.std.proofs.Common.{◌≡◌, ◌<◌, ◌≤◌, ◌+◌, ℕ, List, [], ◌∷◌, ◌++◌, length, get_or, take, drop, Bool, true, not, eqb, ltb, ◌&&◌, refl, sym, ◌∙◌, ap, subst, arith, inl, inr, All, map, append_assoc, length-append, length-drop, slice_range, ◌-◌}
 use Rattle.std.proofs.lemmas.List.{get_or-take, length-take-le, get_or_at, get_or_append_left, get_or_past, take_at, drop_at}
 use Rattle.std.proofs.lemmas.List.Elements.{All-weaker, All-append, All-cons, All-nil, All-head, All-tail}
 use Rattle.std.proofs.lemmas.List.Sums.{AllPass-from_list_all}
@@ -166,6 +166,24 @@ piece_tokens at (w ∷ ws) = let t : Token = record { kind = w.kind; from = at; 
 
 pub spaced_cut : (ws : List Spelling) → All IsSpelled ws → Cut (spaced ws) (spaced_tokens 0 ws)
 spaced_cut ws all = (pieces ws, front ws all, sym (piece_tokens 0 ws))
+
+-- each token of the spaced text is spelled by its word
+respelled_from : (before : List ℕ) (at : ℕ) (ws : List Spelling) → at ≡ length before → map (spelling (before ++ spaced ws)) (spaced_tokens at ws) ≡ ws
+respelled_from before at [] e = refl
+respelled_from before at (w ∷ ws) e =
+    let n = length w.bytes in
+    let rest : List ℕ = w.bytes ++ (32 ∷ spaced ws) in
+    let next : List ℕ = before ++ (w.bytes ++ (32 ∷ [])) in
+    let width : at + n - at ≡ n = omega arith in
+    let head : slice_range (before ++ rest) at (at + n) ≡ w.bytes =
+    ap (λ m. take m (drop at (before ++ rest))) width ∙ ap (take n) (drop_at before rest at (sym e)) ∙ take_at w.bytes (32 ∷ spaced ws) n refl in
+    let same : before ++ rest ≡ next ++ spaced ws = ap (λ xs. before ++ xs) (sym (append_assoc w.bytes (32 ∷ []) (spaced ws))) ∙ sym (append_assoc before (w.bytes ++ (32 ∷ [])) (spaced ws)) in
+    let place : at + n + 1 ≡ length next = omega (arith, e, length-append before (w.bytes ++ (32 ∷ [])), length-append w.bytes (32 ∷ [])) in
+    let tail : map (spelling (before ++ rest)) (spaced_tokens (at + n + 1) ws) ≡ ws = ap (λ text. map (spelling text) (spaced_tokens (at + n + 1) ws)) same ∙ respelled_from next (at + n + 1) ws place in
+    ap (λ b. let v : Spelling = record { kind = w.kind; bytes = b } in v ∷ map (spelling (before ++ rest)) (spaced_tokens (at + n + 1) ws)) head ∙ ap (λ vs. w ∷ vs) tail
+
+pub respelled : (ws : List Spelling) → map (spelling (spaced ws)) (spaced_tokens 0 ws) ≡ ws
+respelled ws = respelled_from [] 0 ws refl
 
 -- a token of a cut is spelled by its slice
 pub token_spelled : (text : List ℕ) (t : Token) → IsTokenOf text t → IsSpelled (spelling text t)
