@@ -40,7 +40,8 @@ fn fault(cause: Cause, at: u32) -> LexFault
     }
 }
 
-/// The tokens of a text, in order; of the faults the first from the left is answered.
+/// The tokens of a text, in order. An `Err` is the first fault from the left, and then the text has no
+/// cut, or want of memory.
 pub fn tokens(alloc: Global, text: &[u8]) -> Result<Vec<Token>, LexFault>
     requires { length text.now < 2 ^ 32 - 1 }
     ensures ok { IfOk result (λ v. Cut text.now v.items) }
