@@ -1,12 +1,12 @@
 -- What has been cut so far, and that a cut and a first fault are unique.
-use Rattle.std.proofs.Common.{◌≡◌, ℕ, ◌+◌, ◌-◌, ◌<◌, ◌≤◌, List, [], ◌∷◌, ◌++◌, length, take, drop, get_or, refl, sym, ◌∙◌, ap, subst, arith, append_assoc, append-nil, inl, inr, length-drop, zero, suc, Option, Some, None, lit<, All, AllPairs, length-take-le}
+use Rattle.std.proofs.Common.{◌≡◌, ℕ, ◌+◌, ◌-◌, ◌<◌, ◌≤◌, List, [], ◌∷◌, ◌++◌, length, take, drop, get_or, refl, sym, ◌∙◌, ap, subst, arith, append_assoc, append-nil, inl, inr, length-drop, zero, suc, All, AllPairs, length-take-le}
 use Rattle.std.proofs.lemmas.List.{drop-drop, drop_all, get_or-take}
 use Rattle.std.proofs.lemmas.Bool.{cases_lt}
 use Rattle.std.proofs.lemmas.List.Elements.{All-cons}
 use Rattle.hys_lex.specs.Words.{IsAt, signs}
 use Rattle.hys_lex.specs.Pieces.{PieceKind, Blank, Block, Line, Lexeme, IsPiece, IsBlock, IsTokenText, IsShort, IsWithinLimit, ClosesAt}
 use Rattle.hys_lex.specs.Cut.{IsMatch, Piece, IsFront, with_piece, tokens_from, Cut, IsTokenOf, Precedes, NoPiece, NoEnd, TooLong, StopsAt, IsFirstFault}
-use Rattle.hys_lex.specs.Reading.{Stands, fault_at, IsGap, IsRead}
+use Rattle.hys_lex.specs.Reading.{Stands, fault_at, IsGap}
 use Rattle.hys_lex.specs.declared.token.Token.{Token}
 use Rattle.hys_lex.specs.declared.token.TokenKind.{TokenKind}
 use Rattle.hys_lex.specs.declared.token.TokenKind.TheVariants.{Name, Literal, Sign}
@@ -15,6 +15,7 @@ use Rattle.hys_lex.specs.declared.cut.LexFault.TheVariants.{Byte, Comment, Long,
 use Rattle.hys_lex.specs.declared.piece.Cause.{Cause}
 use Rattle.hys_lex.specs.declared.piece.Cause.TheVariants as causes
 use Rattle.hys_lex.proofs.Opening.{one_kind, piece_some}
+use Rattle.hys_lex.proofs.Matches.{division}
 
 -- where pieces that begin at a place end
 abbrev pub reach : ℕ → List Piece → ℕ
@@ -77,7 +78,7 @@ ends text found at all upto =
 pub stops : (text : List ℕ) (found : List Token) (at : ℕ) (Cause' : List ℕ → Type 0) → at ≤ length text → Upto text found at → Cause' (drop at text) → StopsAt text at Cause'
 stops text found at Cause' within upto cause = record { pieces = upto.pieces; rest = drop at text; front = upto.front; place = omega (arith, length-drop at text); cause = cause }
 
-pub first_fault : (text : List ℕ) (found : List Token) (at : ℕ) (cause : Cause) → at ≤ length text → Upto text found at → Stands cause (drop at text) → IsFirstFault text (fault_at cause at)
+pub first_fault : (text : List ℕ) (found : List Token) (at : ℕ) (cause : Cause) → at ≤ length text → Upto text found at → Stands (drop at text) cause → IsFirstFault text (fault_at cause at)
 first_fault text found at causes.Byte within upto stands = stops text found at NoPiece within upto stands
 first_fault text found at causes.Comment within upto stands = stops text found at NoEnd within upto stands
 first_fault text found at causes.Long within upto stands = stops text found at TooLong within upto stands
@@ -172,10 +173,6 @@ fault_no_cut text Memory stop tokens cut = stop
 
 -- two faults
 
-division : IsAt signs 15 (47 ∷ [])
-unfolding signs
-division = (lit< tt, refl)
-
 byte_comment : (rest : List ℕ) → NoPiece rest → NoEnd rest → ⊥
 byte_comment [] byte comment = no_byte_end byte
 byte_comment (b ∷ rest) byte comment =
@@ -266,19 +263,14 @@ cut_rising text tokens cut =
 
 -- one step of the loop
 
-pub read_some : (rest : List ℕ) (kind : Option TokenKind) (n : ℕ) → IsRead rest kind n → 0 < n
-read_some rest None n read = match_some rest read.0 n read.2
-  where
-    match_some : (rest : List ℕ) (k : PieceKind) (n : ℕ) → IsMatch rest k n → 0 < n
-    match_some rest k n here = omega (arith, piece_some k (take n rest) here.piece, length-take-le n rest here.within)
-read_some rest (Some kind) n read = omega (arith, piece_some (Lexeme kind) (take n rest) read.0.piece, length-take-le n rest read.0.within)
+pub found_some : (rest : List ℕ) (k : PieceKind) (n : ℕ) → IsMatch rest k n → 0 < n
+found_some rest k n here = omega (arith, piece_some k (take n rest) here.piece, length-take-le n rest here.within)
 
-pub read_within : (text : List ℕ) (at : ℕ) (kind : Option TokenKind) (n : ℕ) → at ≤ length text → IsRead (drop at text) kind n → at + n ≤ length text
-read_within text at None n within read = omega (arith, read.2.within, length-drop at text)
-read_within text at (Some kind) n within read = omega (arith, read.0.within, length-drop at text)
+pub found_within : (text : List ℕ) (at : ℕ) (k : PieceKind) (n : ℕ) → at ≤ length text → IsMatch (drop at text) k n → at + n ≤ length text
+found_within text at k n within here = omega (arith, here.within, length-drop at text)
 
-pub goes_past : (text : List ℕ) (found : List Token) (at n : ℕ) → Upto text found at → IsRead (drop at text) None n → Upto text found (at + n)
-goes_past text found at n upto read = subst (λ x. Upto text x (at + n)) (append-nil found) (past text found at n read.0 upto read.1 read.2)
+pub goes_past : (text : List ℕ) (found : List Token) (at n : ℕ) → Upto text found at → (k : PieceKind) → IsGap k → IsMatch (drop at text) k n → Upto text found (at + n)
+goes_past text found at n upto k gap here = subst (λ x. Upto text x (at + n)) (append-nil found) (past text found at n k upto gap here)
   where
     past : (text : List ℕ) (found : List Token) (at n : ℕ) (k : PieceKind) → Upto text found at → IsGap k → IsMatch (drop at text) k n → Upto text (found ++ []) (at + n)
     past text found at n Blank upto gap here = goes_on text found at n Blank upto here tt

@@ -101,12 +101,13 @@ sign_match text k n c within at most = record {
   comment = λ opens. absurd (closed text Mark c (λ e. cc) opens);
 }
 
-pub no_sign : (text : List ℕ) → class (get_or text 0 0) ≡ Mark → 0 < length text → ((i size : ℕ) → size ≤ length text → IsAt signs i (take size text) → ⊥) → NoPiece text
-no_sign text c some none = record {
+pub no_sign : (text : List ℕ) → class (get_or text 0 0) ≡ Mark → 0 < length text → ((i size : ℕ) → size ≤ length text → IsAt signs i (take size text) → size ≤ 0) → NoPiece text
+no_sign text c some most = record {
   more = some;
   none = λ kind size within p.
-      let s = mark_kind kind (take size text) (front_class text size (size_some text kind size within p) Mark c) p in
-      none s.0 size within s.2;
+      let positive : 0 < size = size_some text kind size within p in
+      let s = mark_kind kind (take size text) (front_class text size positive Mark c) p in
+      omega (arith, most s.0 size within s.2);
 }
 
 open_class : (text : List ℕ) → get_or text 0 0 ≡ 47 → class (get_or text 0 0) ≡ Slash
@@ -169,7 +170,7 @@ line_match text n first second two within before stops =
     not_feed zero few feed = omega (arith, first)
     not_feed (suc n) few feed = let at : suc n ≡ 1 = omega arith in omega (arith, second, ap (λ i. get_or text i 0) at)
 
-division : IsAt signs 15 (47 ∷ [])
+pub division : IsAt signs 15 (47 ∷ [])
 unfolding signs
 division = (lit< tt, refl)
 

@@ -11,7 +11,7 @@ use Rattle.hys_lex.specs.Bytes.{is_blank, is_letter, is_digit, begins_literal}
 use Rattle.hys_lex.specs.Words.{IsAt, keywords, signs}
 use Rattle.hys_lex.specs.Pieces.{PieceKind, Blank, Block, Line, Lexeme, IsWord, IsBlock, IsLine, IsLiteral, IsMantissa, IsPiece}
 use Rattle.hys_lex.specs.declared.token.TokenKind.TheVariants.{Name, Literal, Keyword, Sign}
-use Rattle.hys_lex.proofs.Tables.{each, some_byte}
+use Rattle.hys_lex.proofs.Tables.{each, some_byte, and_both}
 use Rattle.hys_lex.proofs.Literals.{mantissa_some}
 
 pub data Class : Type 0 where
@@ -74,9 +74,6 @@ sign_test Word size = false
 sign_test Number size = false
 sign_test Slash size = eqb size 1
 sign_test Mark size = true
-
-first_class : List ℕ → Class
-first_class bytes = class (get_or bytes 0 0)
 
 opens_blank : (bytes : List ℕ) → IsPiece Blank bytes → class (get_or bytes 0 0) ≡ Gap
 opens_blank bytes p = blank_class (get_or bytes 0 0) p.1
@@ -173,21 +170,13 @@ differs w ws all k inside same =
     let equal : bytes_eq w (get_or ws k []) ≡ true = (bytes_eq-Decides w (get_or ws k [])).1 same in
     false≢true (sym (ap not equal) ∙ other)
 
-and_left : (a b : Bool) → (a && b) ≡ true → a ≡ true
-and_left true b h = refl
-and_left false b h = h
-
-and_right : (a b : Bool) → (a && b) ≡ true → b ≡ true
-and_right true b h = h
-and_right false b h = cc
-
 same_index : (ws : List (List ℕ)) → all_apart ws ≡ true → (i j : ℕ) → i < length ws → j < length ws → get_or ws i [] ≡ get_or ws j [] → i ≡ j
 unfolding all_apart
 same_index [] apart i j ii jj same = absurd (omega arith)
 same_index (w ∷ ws) apart zero zero ii jj same = refl
-same_index (w ∷ ws) apart zero (suc j) ii jj same = absurd (differs w ws (and_left (list_all (λ x. not (bytes_eq w x)) ws) (all_apart ws) apart) j (omega arith) same)
-same_index (w ∷ ws) apart (suc i) zero ii jj same = absurd (differs w ws (and_left (list_all (λ x. not (bytes_eq w x)) ws) (all_apart ws) apart) i (omega arith) (sym same))
-same_index (w ∷ ws) apart (suc i) (suc j) ii jj same = ap suc (same_index ws (and_right (list_all (λ x. not (bytes_eq w x)) ws) (all_apart ws) apart) i j (omega arith) (omega arith) same)
+same_index (w ∷ ws) apart zero (suc j) ii jj same = absurd (differs w ws (and_both (list_all (λ x. not (bytes_eq w x)) ws) (all_apart ws) apart).0 j (omega arith) same)
+same_index (w ∷ ws) apart (suc i) zero ii jj same = absurd (differs w ws (and_both (list_all (λ x. not (bytes_eq w x)) ws) (all_apart ws) apart).0 i (omega arith) (sym same))
+same_index (w ∷ ws) apart (suc i) (suc j) ii jj same = ap suc (same_index ws (and_both (list_all (λ x. not (bytes_eq w x)) ws) (all_apart ws) apart).1 i j (omega arith) (omega arith) same)
 
 one_keyword : (i j : ℕ) (bytes : List ℕ) → IsAt keywords i bytes → IsAt keywords j bytes → i ≡ j
 unfolding keywords all_apart

@@ -1,9 +1,10 @@
 -- Looking a word up in a table, and the longest word of a table that a text begins with.
-use Rattle.std.proofs.Common.{◌≡◌, ◌<◌, ◌≤◌, ◌+◌, ℕ, List, [], length, get_or, map, take, Bool, true, false, refl, sym, ◌∙◌, ap, subst, arith, Bor, below_more, ltb}
+use Rattle.std.proofs.Common.{◌≡◌, ◌<◌, ◌≤◌, ◌+◌, ℕ, List, [], length, get_or, map, take, Bool, true, false, refl, sym, ◌∙◌, ap, subst, arith, Bor, below_more, ltb, ◌&&◌, All}
 use Rattle.std.proofs.lemmas.List.{get_or-map, length-take-le}
 use Rattle.std.proofs.lemmas.Slice.Eq.{bytes_eq-Decides}
 use Rattle.std.specs.Str.{bytes_eq}
 use Rattle.std.proofs.lemmas.List.Sums.{AllPass-from_list_all}
+use Rattle.std.proofs.lemmas.List.Elements.{All-weaker}
 use Rattle.std.specs.List.{list_all}
 use borrow.Author.Tests.{ltb-true}
 use Rattle.hys_lex.specs.Words.{IsAt, signs}
@@ -67,3 +68,17 @@ each test words all k bytes at =
 pub some_byte : (k : ℕ) (bytes : List ℕ) → IsAt signs k bytes → 0 < length bytes
 unfolding signs
 some_byte k bytes at = ltb-true 0 (length bytes) (each (λ b. ltb 0 (length b)) signs refl k bytes at)
+
+-- whether a word stands at its place of the table
+unfoldable pub stands_at : List (List ℕ) → ℕ × List ℕ → Bool
+stands_at words p = (ltb p.0 (length words) && bytes_eq (get_or words p.0 []) p.1)
+
+pub and_both : (a b : Bool) → (a && b) ≡ true → (a ≡ true) × (b ≡ true)
+and_both true b h = (refl, h)
+and_both false b h = cc
+
+pub all_stand : (words : List (List ℕ)) (named : List (ℕ × List ℕ)) → list_all (stands_at words) named ≡ true → All (λ (p : ℕ × List ℕ). IsAt words p.0 p.1) named
+unfolding stands_at
+all_stand words named all = All-weaker (λ (p : ℕ × List ℕ). stands_at words p ≡ true) (λ (p : ℕ × List ℕ). IsAt words p.0 p.1)
+    (λ p h. let b : (ltb p.0 (length words) ≡ true) × (bytes_eq (get_or words p.0 []) p.1 ≡ true) = and_both _ _ h in (ltb-true p.0 (length words) b.0, (bytes_eq-Decides (get_or words p.0 []) p.1).0 b.1))
+    named (AllPass-from_list_all (stands_at words) named all)

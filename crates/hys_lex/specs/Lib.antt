@@ -4,3 +4,4 @@ pub mod Pieces
 pub mod Cut
 pub mod Reading
 pub mod Spaced
+pub mod Named

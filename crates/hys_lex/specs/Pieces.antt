@@ -12,7 +12,7 @@ pub record IsLongest (Shape : List ℕ → Type 0) (text : List ℕ) (size : ℕ
   pub found : 0 < size → Shape (take size text)
   pub most : (more : ℕ) → more ≤ length text → Shape (take more text) → more ≤ size
 
--- a letter, and then letters and digits
+-- a letter or the underscore, and then these and digits
 abbrev pub IsWord : List ℕ → Type 0
 IsWord bytes = (is_letter (slice_index bytes 0) ≡ true) × AllPass is_name_byte bytes
 

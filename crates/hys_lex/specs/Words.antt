@@ -3,12 +3,15 @@ use Rattle.std.specs.Prelude.{◌≡◌, ℕ, ◌<◌, List, [], ◌∷◌, leng
 
 unfoldable pub keywords : List (List ℕ)
 keywords =
-    codes "SYSTEM" ∷ codes "INTERFACE" ∷ codes "IMPLEMENTATION" ∷ codes "STATE" ∷ codes "INPUT" ∷ codes "OUTPUT" ∷ codes "PARAMETER" ∷ codes "AUX" ∷ codes "AD" ∷ codes "DA" ∷ codes "LOGIC" ∷ codes "LINEAR" ∷ codes "AUTOMATA"
-    ∷ codes "CONTINUOUS" ∷ codes "MUST" ∷ codes "REAL" ∷ codes "BOOL" ∷ codes "IF" ∷ codes "THEN" ∷ codes "ELSE" ∷ codes "TRUE" ∷ codes "true" ∷ codes "FALSE" ∷ codes "false" ∷ []
+    codes "SYSTEM" ∷ codes "INTERFACE" ∷ codes "IMPLEMENTATION" ∷ codes "STATE" ∷ codes "INPUT" ∷ codes "OUTPUT"
+    ∷ codes "PARAMETER" ∷ codes "AUX" ∷ codes "AD" ∷ codes "DA" ∷ codes "LOGIC" ∷ codes "LINEAR" ∷ codes "AUTOMATA"
+    ∷ codes "CONTINUOUS" ∷ codes "MUST" ∷ codes "REAL" ∷ codes "BOOL" ∷ codes "IF" ∷ codes "THEN" ∷ codes "ELSE"
+    ∷ codes "TRUE" ∷ codes "true" ∷ codes "FALSE" ∷ codes "false" ∷ []
 
 unfoldable pub signs : List (List ℕ)
 signs =
-    codes "{" ∷ codes "}" ∷ codes "(" ∷ codes ")" ∷ codes "[" ∷ codes "]" ∷ codes "," ∷ codes ";" ∷ codes "=" ∷ codes "<=" ∷ codes ">=" ∷ codes "==" ∷ codes "+" ∷ codes "-" ∷ codes "*" ∷ codes "/" ∷ codes "~" ∷ codes "!" ∷ codes "&"
+    codes "{" ∷ codes "}" ∷ codes "(" ∷ codes ")" ∷ codes "[" ∷ codes "]" ∷ codes "," ∷ codes ";" ∷ codes "=" ∷ codes "<="
+    ∷ codes ">=" ∷ codes "==" ∷ codes "+" ∷ codes "-" ∷ codes "*" ∷ codes "/" ∷ codes "~" ∷ codes "!" ∷ codes "&"
     ∷ codes "&&" ∷ codes "|" ∷ codes "||" ∷ codes "->" ∷ codes "<-" ∷ codes "<->" ∷ []
 
 -- the bytes stand at place k of the list

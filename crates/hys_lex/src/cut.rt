@@ -5,7 +5,7 @@ ghost use Rattle.hys_lex.specs.declared.token.Token.{Token as CutToken};
 ghost use Rattle.hys_lex.specs.declared.cut.LexFault.{LexFault as Fault};
 ghost use Rattle.hys_lex.specs.declared.cut.LexFault.TheVariants.{Memory};
 
-use crate::piece::{Cause, piece};
+use crate::piece::{Cause, Found, piece};
 use crate::token::Token;
 use std::alloc::{AllocFailed, Global};
 
@@ -40,7 +40,8 @@ fn fault(cause: Cause, at: u32) -> LexFault
     }
 }
 
-/// The tokens of a text, in order; of the faults the first from the left is answered.
+/// The tokens of a text, in order. An `Err` is the first fault from the left, and then the text has no
+/// cut, or want of memory.
 pub fn tokens(alloc: Global, text: &[u8]) -> Result<Vec<Token>, LexFault>
     requires { length text.now < 2 ^ 32 - 1 }
     ensures ok { IfOk result (λ v. Cut text.now v.items) }
@@ -56,8 +57,8 @@ pub fn tokens(alloc: Global, text: &[u8]) -> Result<Vec<Token>, LexFault>
     while at < text.len() {
         match piece(&text[at..]) {
             Err(cause) => return Err(fault(cause, at as u32)),
-            Ok((None, len)) => at += len,
-            Ok((Some(kind), len)) => {
+            Ok(Found::Gap(len)) => at += len,
+            Ok(Found::Token(kind, len)) => {
                 found.push(Token {
                     kind,
                     from: at as u32,

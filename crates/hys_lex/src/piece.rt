@@ -1,7 +1,7 @@
 ghost use Rattle.std.specs.Prelude.{◌≡◌, ◌<◌, ◌≤◌, ℕ, length, true, slice_index, MatchResult};
 ghost use Rattle.std.specs.List.{prefix_len};
 ghost use Rattle.hys_lex.specs.Bytes.{is_letter, is_name_byte, begins_literal};
-ghost use Rattle.hys_lex.specs.Reading.{IsRead, Stands};
+ghost use Rattle.hys_lex.specs.Reading.{IsFound, Stands};
 
 use crate::literal::literal_len;
 use crate::token::TokenKind;
@@ -10,6 +10,14 @@ use crate::{byte, comment, sign, words};
 const NAME_LIMIT: usize = 64;
 
 const LITERAL_LIMIT: usize = 32;
+
+/// A piece at the front of a text, by its length.
+#[derive(Clone, Copy, Debug, PartialEq, Eq)]
+pub enum Found {
+    /// A blank or a comment.
+    Gap(usize),
+    Token(TokenKind, usize),
+}
 
 /// Why no lawful piece begins a text.
 #[derive(Clone, Copy, Debug, PartialEq, Eq)]
@@ -32,21 +40,21 @@ fn word_len(text: &[u8]) -> usize
     text.len()
 }
 
-fn word(text: &[u8]) -> Result<(Option<TokenKind>, usize), Cause>
+fn word(text: &[u8]) -> Result<Found, Cause>
     requires { is_letter (slice_index text.now 0) ≡ true }
-    ensures { MatchResult result (λ p. IsRead text.now p.0 p.1) (λ cause. Stands cause text.now) }
+    ensures { MatchResult result (IsFound text.now) (Stands text.now) }
 {
     let len = word_len(text);
     match words::keyword(&text[..len]) {
-        Some(k) => Ok((Some(TokenKind::Keyword(k)), len)),
+        Some(k) => Ok(Found::Token(TokenKind::Keyword(k), len)),
         None if len > NAME_LIMIT => Err(Cause::Long),
-        None => Ok((Some(TokenKind::Name), len)),
+        None => Ok(Found::Token(TokenKind::Name, len)),
     }
 }
 
-fn literal(text: &[u8]) -> Result<(Option<TokenKind>, usize), Cause>
+fn literal(text: &[u8]) -> Result<Found, Cause>
     requires { begins_literal (slice_index text.now 0) ≡ true }
-    ensures { MatchResult result (λ p. IsRead text.now p.0 p.1) (λ cause. Stands cause text.now) }
+    ensures { MatchResult result (IsFound text.now) (Stands text.now) }
 {
     let len = literal_len(text);
     if len == 0 {
@@ -55,34 +63,34 @@ fn literal(text: &[u8]) -> Result<(Option<TokenKind>, usize), Cause>
     if len > LITERAL_LIMIT {
         return Err(Cause::Long);
     }
-    Ok((Some(TokenKind::Literal), len))
+    Ok(Found::Token(TokenKind::Literal, len))
 }
 
 // A comment, or the sign `/`.
-fn slash(text: &[u8]) -> Result<(Option<TokenKind>, usize), Cause>
+fn slash(text: &[u8]) -> Result<Found, Cause>
     requires { slice_index text.now 0 ≡ 47 }
-    ensures { MatchResult result (λ p. IsRead text.now p.0 p.1) (λ cause. Stands cause text.now) }
+    ensures { MatchResult result (IsFound text.now) (Stands text.now) }
 {
     if text.len() > 1 && text[1] == b'*' {
         return match comment::block_len(text) {
-            Some(len) => Ok((None, len)),
+            Some(len) => Ok(Found::Gap(len)),
             None => Err(Cause::Comment),
         };
     }
     if text.len() > 1 && text[1] == b'/' {
-        return Ok((None, comment::line_len(text)));
+        return Ok(Found::Gap(comment::line_len(text)));
     }
-    Ok((Some(TokenKind::Sign(sign::DIVIDE)), 1))
+    Ok(Found::Token(TokenKind::Sign(sign::DIVIDE), 1))
 }
 
-/// The piece at the front: its kind, where it is a token, and its length.
-pub fn piece(text: &[u8]) -> Result<(Option<TokenKind>, usize), Cause>
+/// The piece at the front of a text that is not empty.
+pub fn piece(text: &[u8]) -> Result<Found, Cause>
     requires { 0 < length text.now }
-    ensures { MatchResult result (λ p. IsRead text.now p.0 p.1) (λ cause. Stands cause text.now) }
+    ensures { MatchResult result (IsFound text.now) (Stands text.now) }
 {
     let first = text[0];
     if byte::is_blank(first) {
-        return Ok((None, 1));
+        return Ok(Found::Gap(1));
     }
     if byte::is_letter(first) {
         return word(text);
@@ -93,8 +101,9 @@ pub fn piece(text: &[u8]) -> Result<(Option<TokenKind>, usize), Cause>
     if first == b'/' {
         return slash(text);
     }
-    match words::sign(text) {
-        Some((k, len)) => Ok((Some(TokenKind::Sign(k)), len)),
-        None => Err(Cause::Byte),
+    let (k, len) = words::sign(text);
+    if len == 0 {
+        return Err(Cause::Byte);
     }
+    Ok(Found::Token(TokenKind::Sign(k), len))
 }

@@ -46,10 +46,11 @@ fn place(words: &[&[u8]], word: &[u8]) -> Option<u8>
     None
 }
 
-// The place and the length of the longest word of the list that the text begins with.
+// The place and the length of the longest word of the list that the text begins with; the length is 0
+// for none.
 fn longest(words: &[&[u8]], text: &[u8]) -> (u8, usize)
     requires { length words.now ≤ 256 }
-    ensures least { (k : ℕ) (size : ℕ) → size ≤ length text.now → IsAt (map (λ w. w.now) words.now) k (take size text.now) → size ≤ result.1 }
+    ensures most { (k : ℕ) (size : ℕ) → size ≤ length text.now → IsAt (map (λ w. w.now) words.now) k (take size text.now) → size ≤ result.1 }
     ensures within { result.1 ≤ length text.now }
     ensures found { 0 < result.1 → IsAt (map (λ w. w.now) words.now) result.0 (take result.1 text.now) }
 {
@@ -69,13 +70,11 @@ pub fn keyword(word: &[u8]) -> Option<u8>
     place(&KEYWORDS, word)
 }
 
-/// The place and the length of the longest sign that the text begins with.
-pub fn sign(text: &[u8]) -> Option<(u8, usize)>
-    ensures { MatchOption result ((k : ℕ) (size : ℕ) → size ≤ length text.now → IsAt signs k (take size text.now) → ⊥) (λ s. (0 < s.1) × (s.1 ≤ length text.now) × IsAt signs s.0 (take s.1 text.now) × ((k : ℕ) (size : ℕ) → size ≤ length text.now → IsAt signs k (take size text.now) → size ≤ s.1)) }
+/// The place and the length of the longest sign that the text begins with; the length is 0 for none.
+pub fn sign(text: &[u8]) -> (u8, usize)
+    ensures most { (k : ℕ) (size : ℕ) → size ≤ length text.now → IsAt signs k (take size text.now) → size ≤ result.1 }
+    ensures within { result.1 ≤ length text.now }
+    ensures found { 0 < result.1 → IsAt signs result.0 (take result.1 text.now) }
 {
-    let (place, size) = longest(&SIGNS, text);
-    if size == 0 {
-        return None;
-    }
-    Some((place, size))
+    longest(&SIGNS, text)
 }

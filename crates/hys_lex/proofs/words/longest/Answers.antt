@@ -24,8 +24,8 @@ loop-k-preserved c =
           ])
     ]
 
-pub returns-clause-least : goal.returns-clause-least
-returns-clause-least c = λ k n within at. c.loop-k.invariant.least k (omega (arith, at.0, length-map c.args.words.now (λ (w : Bor (List ℕ)). w.now))) n within at.1
+pub returns-clause-most : goal.returns-clause-most
+returns-clause-most c = λ k n within at. c.loop-k.invariant.least k (omega (arith, at.0, length-map c.args.words.now (λ (w : Bor (List ℕ)). w.now))) n within at.1
 
 pub returns-clause-found : goal.returns-clause-found
 returns-clause-found c = c.loop-k.invariant.found
