@@ -5,9 +5,9 @@ use Rattle.std.proofs.lemmas.List.Elements.{All-head, All-tail, All-cons, All-ni
 use Rattle.hys_frac.specs.Differ.{Differ}
 use Rattle.hys_lin.specs.Sums.{IsInterval}
 use Rattle.hys_lin.specs.Over.{AreTermsOver}
-use Rattle.hys_parse.specs.Parts.{AreParts, boxed_of, name_of}
-use Rattle.hys_parse.specs.declared.parts.Boxed.{Boxed}
-use Rattle.hys_parse.specs.declared.parts.PlainParts.{PlainParts}
+use Rattle.hys_plain.specs.Parts.{AreParts, boxed_of, name_of}
+use Rattle.hys_plain.specs.declared.parts.Boxed.{Boxed}
+use Rattle.hys_plain.specs.declared.parts.PlainParts.{PlainParts}
 use Rattle.hys_sys.specs.System.{IsSystem, InOrder, IsBox, rank, states, names}
 use Rattle.hys_sys.specs.declared.system.ColumnRole.{ColumnRole}
 use Rattle.hys_sys.specs.declared.system.ColumnRole.TheVariants.{State, Input}

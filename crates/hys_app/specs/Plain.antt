@@ -1,7 +1,7 @@
 -- The system of a plain source.
 use Rattle.std.specs.Prelude.{ℕ, ◌+◌, List, [], ◌++◌, length, map}
-use Rattle.hys_parse.specs.declared.parts.Boxed.{Boxed}
-use Rattle.hys_parse.specs.declared.parts.PlainParts.{PlainParts}
+use Rattle.hys_plain.specs.declared.parts.Boxed.{Boxed}
+use Rattle.hys_plain.specs.declared.parts.PlainParts.{PlainParts}
 use Rattle.hys_sys.specs.declared.system.ColumnRole.{ColumnRole}
 use Rattle.hys_sys.specs.declared.system.ColumnRole.TheVariants.{State, Input}
 use Rattle.hys_sys.specs.declared.system.Kind2.TheVariants.{Real}

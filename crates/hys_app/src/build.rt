@@ -1,9 +1,9 @@
 ghost use Rattle.std.specs.Prelude.{◌≡◌, ◌++◌, map, IfOk, OnOk};
-ghost use Rattle.hys_parse.specs.Parts.{AreParts};
+ghost use Rattle.hys_plain.specs.Parts.{AreParts};
 ghost use Rattle.hys_app.specs.Plain.{column_of, system_of};
 
 use hys_frac::List;
-use hys_parse::{Boxed, PlainParts};
+use hys_plain::{Boxed, PlainParts};
 use hys_sys::{Column, ColumnRole, Kind2, System};
 use std::alloc::{AllocError, Global};
 

@@ -1,7 +1,7 @@
 ghost use Rattle.std.specs.Prelude.{◌≡◌, ◌≤◌, ◌⊎◌, IfOk, length, string_bytes};
 ghost use Rattle.hys_io.specs.Outside.{Rose, IfAppended, IfPut, IfTorn};
 ghost use Rattle.hys_app.specs.Lines.{not_yet_line};
-ghost use Rattle.hys_parse.specs.Parts.{AreParts};
+ghost use Rattle.hys_plain.specs.Parts.{AreParts};
 ghost use Rattle.hys_app.specs.Ends.{AreTexts, IfPart, IsPut, Kept, SomePart, Whole, source_limit};
 
 use crate::Status;
@@ -9,7 +9,7 @@ use crate::build::plain_system;
 use crate::lines::{compiled, not_yet};
 use crate::say::say;
 use hys_io::{Failure, Files, Sink};
-use hys_parse::{PlainFault, PlainParts, plain};
+use hys_plain::{PlainFault, PlainParts, plain};
 use hys_sys::write_system;
 use std::alloc::{AllocError, Global};
 
