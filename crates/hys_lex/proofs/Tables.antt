@@ -1,6 +1,6 @@
 -- Looking a word up in a table, and the longest word of a table that a text begins with.
 use Rattle.std.proofs.Common.{◌≡◌, ◌<◌, ◌≤◌, ◌+◌, ℕ, List, [], length, get_or, map, take, Bool, true, false, refl, sym, ◌∙◌, ap, subst, arith, Bor, below_more, ltb, ◌&&◌, All}
-use Rattle.std.proofs.lemmas.List.{get_or-map, length-take-le}
+use Rattle.std.proofs.lemmas.List.{get_or-map, get_or-take, length-take-le}
 use Rattle.std.proofs.lemmas.Slice.Eq.{bytes_eq-Decides}
 use Rattle.std.specs.Str.{bytes_eq}
 use Rattle.std.proofs.lemmas.List.Sums.{AllPass-from_list_all}
@@ -56,8 +56,16 @@ best_differs words i text word best size was here other = record {
   found = was.found;
 }
 
-pub no_longer : (words : List (List ℕ)) (text : List ℕ) (best size : ℕ) → Best words (length words) text best size → (k n : ℕ) → n ≤ length text → IsAt words k (take n text) → n ≤ size
-no_longer words text best size was k n within at = was.least k at.0 n within at.1
+pub best_begins_otherwise : (words : List (List ℕ)) (i : ℕ) (text word : List ℕ) (best size : ℕ) → Best words i text best size → get_or words i [] ≡ word → size < length word → (get_or word 0 0 ≡ get_or text 0 0 → ⊥) →
+    Best words (i + 1) text best size
+best_begins_otherwise words i text word best size was here longer other = record {
+  least = below_more (λ k. (n : ℕ) → n ≤ length text → get_or words k [] ≡ take n text → n ≤ size) i was.least
+      (λ n within is.
+      let n_is : length word ≡ n = length_of word text n within (sym here ∙ is) in
+      absurd (other (ap (λ xs. get_or xs 0 0) (sym here ∙ is) ∙ get_or-take n text 0 0 (omega arith))));
+  within = was.within;
+  found = was.found;
+}
 
 -- what a test over the whole table says of each word
 pub each : (test : List ℕ → Bool) (words : List (List ℕ)) → list_all test words ≡ true → (k : ℕ) (bytes : List ℕ) → IsAt words k bytes → test bytes ≡ true

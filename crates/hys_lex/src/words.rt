@@ -49,14 +49,16 @@ fn place(words: &[&[u8]], word: &[u8]) -> Option<u8>
 // The place and the length of the longest word of the list that the text begins with; the length is 0
 // for none.
 fn longest(words: &[&[u8]], text: &[u8]) -> (u8, usize)
-    requires { length words.now ≤ 256 }
+    requires few { length words.now ≤ 256 }
+    requires some { 0 < length text.now }
     ensures most { (k : ℕ) (size : ℕ) → size ≤ length text.now → IsAt (map (λ w. w.now) words.now) k (take size text.now) → size ≤ result.1 }
     ensures within { result.1 ≤ length text.now }
     ensures found { 0 < result.1 → IsAt (map (λ w. w.now) words.now) result.0 (take result.1 text.now) }
 {
+    let first = text[0];
     let mut best = (0, 0);
     for (k, candidate) in words.iter().enumerate() {
-        if best.1 < candidate.len() && text.starts_with(candidate) {
+        if best.1 < candidate.len() && candidate[0] == first && text.starts_with(candidate) {
             best = (k as u8, candidate.len());
         }
     }
@@ -72,6 +74,7 @@ pub fn keyword(word: &[u8]) -> Option<u8>
 
 /// The place and the length of the longest sign that the text begins with; the length is 0 for none.
 pub fn sign(text: &[u8]) -> (u8, usize)
+    requires { 0 < length text.now }
     ensures most { (k : ℕ) (size : ℕ) → size ≤ length text.now → IsAt signs k (take size text.now) → size ≤ result.1 }
     ensures within { result.1 ≤ length text.now }
     ensures found { 0 < result.1 → IsAt signs result.0 (take result.1 text.now) }
