@@ -67,3 +67,10 @@ connectives (constant b) = 0
 connectives (named n) = 0
 connectives (negated f) = connectives f
 connectives (joined c f g) = suc (connectives f + connectives g)
+
+-- the number of nodes
+abbrev pub nodes : FormulaTree → ℕ
+nodes (constant b) = 1
+nodes (named n) = 1
+nodes (negated f) = suc (nodes f)
+nodes (joined c f g) = suc (nodes f + nodes g)
