@@ -1,7 +1,7 @@
 -- Lists of terms: parts of them, their sums, and what setting one factor does.
-use Rattle.std.specs.Prelude.{◌≡◌, ℕ, zero, suc, ◌+◌, ◌<◌, ◌≤◌, List, [], ◌∷◌, ◌++◌, length, ◌⊎◌, Bool, true, false, cond, Option, Some, None}
-use Rattle.std.proofs.Common.{get_or, take, drop, refl, sym, ◌∙◌, ap, ap₂, arith, subst, ⊎_elim, inl, inr, eqb, eqb→eq, append_assoc, tests}
-use Rattle.std.proofs.lemmas.List.{take_more, take_at, drop_at, drop_more, take-append-drop}
+use Rattle.std.specs.Prelude.{◌≡◌, ℕ, zero, suc, ◌+◌, ◌<◌, ◌≤◌, List, [], ◌∷◌, ◌++◌, length, Bool, true, false, cond, Option, Some, None}
+use Rattle.std.proofs.Common.{get_or, take, drop, refl, sym, ◌∙◌, ap, arith, subst, inl, inr, eqb, tests}
+use Rattle.std.proofs.lemmas.List.{take_more, take_at, drop_at, take-append-drop}
 use Rattle.hys_number.specs.Number.{Number}
 use Rattle.hys_number.specs.Ops.{◌+ₙ◌, ◌*ₙ◌, ◌-ₙ◌, neg, whole}
 use Rattle.hys_number.proofs.Field.{add_assoc, add_zero, neg_neg}
@@ -12,7 +12,7 @@ use Rattle.hys_lin.specs.declared.form.Affine.{Affine}
 use Rattle.hys_lin.specs.declared.form.Row.{Row}
 use Rattle.hys_guard.specs.Numbers.{factor_at, constant_by, own_term, opposite_term}
 use Rattle.hys_guard.specs.Set.{Splits, Piece, Around, TakenOut, IsSet, negated, signed, join_by, unit_by, JoinedTerms, EachOwn}
-use Rattle.hys_guard.specs.Stated.{IsRow, Stated, bound_by, copied_by, guarded_by, turned_by, apart_by, term_value}
+use Rattle.hys_guard.specs.Stated.{IsRow, bound_by, copied_by, guarded_by, turned_by, apart_by, term_value}
 use Rattle.hys_guard.specs.declared.terms.Side.{Side}
 use Rattle.hys_guard.specs.declared.terms.Side.TheVariants.{Upper, Lower}
 
@@ -56,8 +56,8 @@ after_from c zero (x ∷ xs) t h l e m =
 after_from c (suc i) (x ∷ xs) t h l e m = after_from c i xs t h.2 (omega arith) e m
 
 -- ---- the place
-pub before_more : (c i : ℕ) (xs : List Term) (t : Term) → i < length xs → t ≡ get_or xs i t → t.column < c → EachColumn (λ d. d < c) (take i xs) → EachColumn (λ d. d < c) (take (i + 1) xs)
-before_more c i xs t l e m h = rw (take_more xs i t l, ← e) (each-append (λ d. d < c) (take i xs) (t ∷ []) h (m, tt))
+pub each_taken : (P : ℕ → Type 0) (i : ℕ) (xs : List Term) (t : Term) → i < length xs → t ≡ get_or xs i t → P t.column → EachColumn P (take i xs) → EachColumn P (take (i + 1) xs)
+each_taken P i xs t l e m h = rw (take_more xs i t l, ← e) (each-append P (take i xs) (t ∷ []) h (m, tt))
 
 pub splits_at : (c i : ℕ) (xs : List Term) (t : Term) → AreTerms xs → i < length xs → t ≡ get_or xs i t → c ≤ t.column → EachColumn (λ d. d < c) (take i xs) → Splits c i xs
 splits_at c i xs t h l e m b = record { within = omega arith; before = b; after = after_from c i xs t h l e m }

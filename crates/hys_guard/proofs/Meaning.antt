@@ -1,17 +1,17 @@
 -- What stated rows mean.
-use Rattle.std.specs.Prelude.{◌≡◌, ℕ, zero, suc, ◌+◌, ◌<◌, ◌≤◌, ◌↔◌, List, [], ◌∷◌, ◌++◌, length, ◌⊎◌, Bool, true, false, Option, Some, None}
-use Rattle.std.proofs.Common.{refl, sym, ◌∙◌, ap, ap₂, arith, subst, inl, inr}
+use Rattle.std.specs.Prelude.{◌≡◌, ℕ, ◌<◌, ◌≤◌, ◌↔◌, List, [], ◌∷◌, ◌++◌, length, ◌⊎◌, Bool, true, false, Option, Some, None}
+use Rattle.std.proofs.Common.{refl, sym, ◌∙◌, ap, arith, inl, inr}
 use Rattle.hys_number.specs.Number.{Number}
-use Rattle.hys_number.specs.Ops.{◌+ₙ◌, ◌*ₙ◌, ◌-ₙ◌, neg, ◌≤ₙ◌, ◌<ₙ◌, whole}
-use Rattle.hys_number.proofs.Laws.{ratio, whole-ratio}
+use Rattle.hys_number.specs.Ops.{◌+ₙ◌, ◌*ₙ◌, ◌-ₙ◌, neg, ◌≤ₙ◌, whole}
+use Rattle.hys_number.proofs.Laws.{whole-ratio}
 use Rattle.hys_number.proofs.Field.{mul_one, mul_zero, add_neg, mul-add, neg-mul, add_zero}
-use Rattle.hys_number.proofs.Scale.{overs, common2, common2_of, common3, common3_of, common5, common5_of, common6, common6_of, common7, common7_of}
-use Rattle.hys_number.proofs.Ring.{by_ring, v as x, k, minus, ◌⊕◌, ◌⊗◌, ◌⊖◌}
+use Rattle.hys_number.proofs.Scale.{overs, common3, common3_of, common5, common5_of, common7, common7_of}
+use Rattle.hys_number.proofs.Ring.{by_ring, v as x, k, minus, ◌⊕◌, ◌⊖◌}
 use Rattle.hys_lin.specs.declared.form.Term.{Term}
 use Rattle.hys_lin.specs.declared.form.Affine.{Affine}
 use Rattle.hys_lin.specs.declared.form.Row.{Row}
 use Rattle.hys_lin.specs.declared.form.Interval.{Interval}
-use Rattle.hys_lin.specs.Sums.{Assignment, sum_of, value, compared, Holds, HoldAll, Within}
+use Rattle.hys_lin.specs.Sums.{Assignment, sum_of, value, Holds, HoldAll, Within}
 use Rattle.hys_guard.specs.Bits.{bit, IsBit, chosen}
 use Rattle.hys_guard.specs.Numbers.{own_term, opposite_term}
 use Rattle.hys_guard.specs.Stated.{IsRow, Stated, AreRows, EachBelow, guard_stated, choice_stated, copy_stated, term_value}

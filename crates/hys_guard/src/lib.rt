@@ -13,3 +13,6 @@ pub use choice::choice_rows;
 pub use copies::copy_rows;
 pub use fault::GuardFault;
 pub use guard::guard_rows;
+
+#[cfg(test)]
+mod tests;

@@ -8,3 +8,6 @@ mod small;
 
 pub use formula::rows_of;
 pub use literal::Logic;
+
+#[cfg(test)]
+mod tests;

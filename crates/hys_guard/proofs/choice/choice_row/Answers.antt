@@ -1,4 +1,4 @@
-use Rattle.std.proofs.Common.{◌≡◌, ◌<◌, ◌∙◌, ap, ap₂}
+use Rattle.std.proofs.Common.{◌<◌, ◌∙◌, ap₂}
 use Rattle.hys_number.specs.Ops.{◌-ₙ◌}
 use Rattle.hys_guard.specs.Numbers.{own_term as own_term_of}
 use Rattle.hys_guard.proofs.Lists.{bound_row, joined_each, set_each}

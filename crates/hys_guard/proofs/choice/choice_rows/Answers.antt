@@ -1,6 +1,3 @@
-use Rattle.std.proofs.Common.{◌≡◌, List, ◌∷◌, [], ◌++◌, ◌∙◌, ap, sym, subst}
-use Rattle.hys_lin.specs.declared.form.Row.{Row}
-use Rattle.hys_guard.specs.Stated.{AreRows, EachBelow, choice_stated, pair_stated}
 use Rattle.hys_guard.proofs.Meaning.{choice_means, are-append, below-append}
 use Rattle.hys_guard.proofs.choice.choice_rows.Goals as goal
 

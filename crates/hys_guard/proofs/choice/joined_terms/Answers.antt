@@ -1,5 +1,3 @@
-use Rattle.std.proofs.Common.{◌≡◌, ◌∙◌, ap}
-use Rattle.hys_guard.specs.Set.{signed}
 use Rattle.hys_guard.proofs.Lists.{signed_terms, set_terms}
 use Rattle.hys_guard.proofs.choice.joined_terms.Goals as goal
 

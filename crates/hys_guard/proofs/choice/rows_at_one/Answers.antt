@@ -1,5 +1,4 @@
-use Rattle.std.proofs.Common.{◌≡◌, ◌<◌, ◌∙◌, ap}
-use Rattle.hys_guard.specs.Numbers.{own_term}
+use Rattle.std.proofs.Common.{◌≡◌, ◌<◌}
 use Rattle.hys_guard.specs.declared.terms.Side.TheVariants.{Upper}
 use Rattle.hys_guard.proofs.Lists.{own-negated, signed_each}
 use Rattle.hys_guard.proofs.choice.rows_at_one.Goals as goal

@@ -1,5 +1,4 @@
-use Rattle.std.proofs.Common.{◌≡◌, [], ◌∷◌, ◌∙◌, ap, append_assoc, ◌++◌}
-use Rattle.hys_lin.specs.declared.form.Row.{Row}
+use Rattle.std.proofs.Common.{[], ◌∷◌, ◌∙◌, ap, append_assoc, ◌++◌}
 use Rattle.hys_guard.proofs.Lists.{own_each}
 use Rattle.std.proofs.Common.{◌<◌}
 use Rattle.hys_guard.proofs.choice.rows_at_zero.Goals as goal

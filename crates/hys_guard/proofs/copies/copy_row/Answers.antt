@@ -1,4 +1,4 @@
-use Rattle.std.proofs.Common.{◌≡◌, ◌∙◌, ap}
+use Rattle.std.proofs.Common.{◌∙◌, ap}
 use Rattle.hys_guard.specs.Set.{signed}
 use Rattle.hys_guard.proofs.Lists.{copied_row, signed_below, signed_terms}
 use Rattle.hys_guard.proofs.copies.copy_row.Goals as goal

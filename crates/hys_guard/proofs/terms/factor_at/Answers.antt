@@ -1,5 +1,4 @@
-use Rattle.std.proofs.Common.{◌≡◌, sym, ◌∙◌, ap}
-use Rattle.std.proofs.lemmas.List.{take_all}
+use Rattle.std.proofs.Common.{sym, ◌∙◌, ap}
 use Rattle.hys_guard.specs.Numbers.{factor_at as factor_in}
 use Rattle.hys_guard.proofs.Lists.{none_left}
 use Rattle.hys_guard.proofs.terms.factor_at.Goals as goal

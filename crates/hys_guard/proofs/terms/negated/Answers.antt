@@ -1,4 +1,3 @@
-use Rattle.std.proofs.Common.{◌∙◌, ap}
 use Rattle.hys_guard.proofs.Lists.{negated_more}
 use Rattle.hys_guard.proofs.terms.negated.Goals as goal
 

@@ -1,4 +1,3 @@
-use Rattle.std.proofs.Common.{arith, ◌∙◌, ap, sym, rules}
 use Rattle.hys_guard.proofs.Lists.{put_in, left_out}
 use Rattle.hys_guard.proofs.Zero.{other_than_zero, is_zero}
 use Rattle.hys_guard.specs.Numbers.{factor_at as factor_in}

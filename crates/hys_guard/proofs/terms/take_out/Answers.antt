@@ -1,4 +1,4 @@
-use Rattle.std.proofs.Common.{◌≡◌, ◌<◌, ◌≤◌, arith, ◌∙◌, ap, sym, length}
+use Rattle.std.proofs.Common.{◌<◌, ◌≤◌, arith, length}
 use Rattle.hys_guard.specs.Set.{Splits}
 use Rattle.hys_guard.proofs.Lists.{found_out, past_out, other_out}
 use Rattle.hys_guard.proofs.terms.take_out.Goals as goal
