@@ -1,0 +1,58 @@
+ghost use Rattle.std.specs.Prelude.{◌≡◌, IfOk, ◌∷◌, []};
+ghost use Rattle.hys_number.specs.Ops.{◌*ₙ◌, ◌-ₙ◌};
+ghost use Rattle.hys_guard.specs.Numbers.{Judged, subtract, multiply, joined as joined_numbers};
+ghost use Rattle.hys_guard.specs.Set.{join_by};
+
+use crate::fault::GuardFault;
+use crate::terms::Side;
+use hys_frac::Frac;
+use hys_lin::{Lost, Op};
+
+/// The exact difference.
+pub fn difference(left: Frac, right: Frac) -> Result<Frac, GuardFault>
+    ensures value { IfOk result (λ r. r ≡ left -ₙ right) }
+    ensures judged { Judged (subtract left right ∷ []) result }
+{
+    match left.sub(right) {
+        Some(number) => Ok(number),
+        None => Err(GuardFault::Lost(Lost {
+            op: Op::Sub,
+            left,
+            right,
+        })),
+    }
+}
+
+/// The exact product.
+pub fn product(left: Frac, right: Frac) -> Result<Frac, GuardFault>
+    ensures value { IfOk result (λ r. r ≡ left *ₙ right) }
+    ensures judged { Judged (multiply left right ∷ []) result }
+{
+    match left.mul(right) {
+        Some(number) => Ok(number),
+        None => Err(GuardFault::Lost(Lost {
+            op: Op::Mul,
+            left,
+            right,
+        })),
+    }
+}
+
+/// The factor of a column that a literal and a form share: the form is subtracted in a row that
+/// bounds from above, and added in one from below.
+pub fn joined(side: Side, left: Frac, right: Frac) -> Result<Frac, GuardFault>
+    ensures value { IfOk result (λ r. r ≡ join_by side left right) }
+    ensures judged { Judged (joined_numbers side left right ∷ []) result }
+{
+    match side {
+        Side::Upper => difference(left, right),
+        Side::Lower => match left.add(right) {
+            Some(number) => Ok(number),
+            None => Err(GuardFault::Lost(Lost {
+                op: Op::Add,
+                left,
+                right,
+            })),
+        },
+    }
+}

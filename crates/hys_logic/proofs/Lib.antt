@@ -1,0 +1,4 @@
+pub mod Smalls
+pub mod Terms
+pub mod Connectives
+pub mod Truths

@@ -1,0 +1,204 @@
+ghost use Rattle.std.specs.Prelude.{◌≡◌, ◌+◌, ◌*◌, ◌^◌, ◌≤◌, ◌<◌, ◌↔◌, IfOk, length, ℕ, Bool};
+ghost use Rattle.hys_number.specs.Number.{Number};
+ghost use Rattle.hys_lin.specs.Sums.{Assignment, value, AreTerms, EachColumn, HoldAll};
+ghost use Rattle.hys_prog.specs.Formulas.{tree_of, connectives, EachName, IsBit, bit, truth};
+ghost use Rattle.hys_logic.specs.declared.row.Sign.TheVariants.{Plus, Minus};
+ghost use Rattle.hys_prog.specs.declared.formula.Connective.TheVariants.{And, Iff};
+ghost use Rattle.hys_logic.specs.Literals.{column_in, literal_of, LiteralBelow};
+ghost use Rattle.hys_logic.specs.Rows.{Added, Agrees, BitsFrom, fresh_of, stated_of, connective_stated, or_stated};
+ghost use Rattle.hys_logic.specs.Stated.{AreRows, EachBelow};
+
+use crate::literal::{Literal, Logic};
+use crate::row::{Part, Sign, nothing, row_of};
+use hys_frac::List;
+use hys_lin::Row;
+use hys_prog::{Connective, Formula};
+use std::alloc::{AllocError, Global};
+
+// The literal of a formula whose rows were made, and the next free column.
+#[derive(Clone, Copy, Debug, PartialEq, Eq)]
+struct Made {
+    literal: Literal,
+    next: u64,
+}
+
+/// The rows of a formula. `columns` gives each name's column, below `first_free`; each connective
+/// takes the next column from `first_free` on, in post-order. For each choice of 0 or 1 in the
+/// names' columns the rows have exactly one solution with 0 or 1 in the fresh columns: there each
+/// has the truth of its connective, and the literal that of the formula.
+pub fn rows_of(
+    alloc: Global,
+    formula: &Formula,
+    columns: &[u32],
+    first_free: u32,
+) -> Result<Logic, AllocError>
+    requires names { EachName (λ n. (n < length columns.now) × (column_in columns.now n < first_free)) (tree_of formula.now) }
+    requires room { first_free + connectives (tree_of formula.now) ≤ 2 ^ 32 }
+    requires count { connectives (tree_of formula.now) < 2 ^ 32 }
+    ensures solution { IfOk result (λ l. (v : Assignment) → EachName (λ n. IsBit (v (column_in columns.now n))) (tree_of formula.now) → BitsFrom v first_free l.fresh → HoldAll v l.rows ↔ Agrees v first_free (fresh_of (tree_of formula.now) (λ n. v (column_in columns.now n)))) }
+    ensures literal { IfOk result (λ l. (v : Assignment) → EachName (λ n. IsBit (v (column_in columns.now n))) (tree_of formula.now) → Agrees v first_free (fresh_of (tree_of formula.now) (λ n. v (column_in columns.now n))) → value l.literal v ≡ bit (truth (tree_of formula.now) (λ n. v (column_in columns.now n)))) }
+    ensures fresh { IfOk result (λ l. l.fresh ≡ connectives (tree_of formula.now)) }
+    ensures stated { IfOk result (λ l. AreRows l.rows (stated_of (column_in columns.now) first_free (tree_of formula.now))) }
+    ensures count { IfOk result (λ l. length l.rows ≤ 4 * connectives (tree_of formula.now)) }
+    ensures form { IfOk result (λ l. AreTerms l.literal.terms × (length l.literal.terms ≤ 1)) }
+    ensures below { IfOk result (λ l. EachBelow (first_free + connectives (tree_of formula.now)) l.rows × EachColumn (λ c. c < first_free + connectives (tree_of formula.now)) l.literal.terms) }
+{
+    let mut rows = Vec::new(alloc);
+    let made = add_rows(alloc, formula, columns, u64::from(first_free), &mut rows)?;
+    let literal = made.literal.form(alloc)?;
+    Ok(Logic {
+        rows: List::of(rows),
+        literal,
+        fresh: (made.next - u64::from(first_free)) as u32,
+    })
+}
+
+// Adds the rows of a formula whose connectives take the columns from `next` on.
+fn add_rows(
+    alloc: Global,
+    formula: &Formula,
+    columns: &[u32],
+    next: u64,
+    rows: &mut Vec<Row>,
+) -> Result<Made, AllocError>
+    requires names { EachName (λ n. (n < length columns.now) × (column_in columns.now n < next)) (tree_of formula.now) }
+    requires room { next + connectives (tree_of formula.now) ≤ 2 ^ 32 }
+    ensures literal { IfOk result (λ m. m.literal ≡ literal_of (column_in columns.now) next (tree_of formula.now)) }
+    ensures next { IfOk result (λ m. m.next ≡ next + connectives (tree_of formula.now)) }
+    ensures added { IfOk result (λ _. Added rows.old.items rows.new.items (stated_of (column_in columns.now) next (tree_of formula.now)) (next + connectives (tree_of formula.now))) }
+{
+    match formula {
+        Formula::Const(truth) => Ok(Made {
+            literal: Literal::Fixed(*truth),
+            next,
+        }),
+        Formula::Name(name) => Ok(Made {
+            literal: Literal::Column {
+                column: columns[*name as usize],
+                negated: false,
+            },
+            next,
+        }),
+        Formula::Not(inner) => {
+            let made = add_rows(alloc, inner, columns, next, rows)?;
+            Ok(Made {
+                literal: made.literal.opposite(),
+                next: made.next,
+            })
+        }
+        Formula::Join(connective, left, right) => {
+            let first = add_rows(alloc, left, columns, next, rows)?;
+            let second = add_rows(alloc, right, columns, first.next, rows)?;
+            let column = second.next as u32;
+            add_connective(
+                alloc,
+                *connective,
+                first.literal,
+                second.literal,
+                column,
+                rows,
+            )?;
+            Ok(Made {
+                literal: Literal::Column {
+                    column,
+                    negated: false,
+                },
+                next: second.next + 1,
+            })
+        }
+    }
+}
+
+// Adds the rows that tie a column to a connective of two literals.
+fn add_connective(
+    alloc: Global,
+    connective: Connective,
+    left: Literal,
+    right: Literal,
+    column: u32,
+    rows: &mut Vec<Row>,
+) -> Result<(), AllocError>
+    requires left { LiteralBelow column left }
+    requires right { LiteralBelow column right }
+    ensures { IfOk result (λ _. Added rows.old.items rows.new.items (connective_stated connective left right column) (column + 1)) }
+{
+    match connective {
+        Connective::And => add_and(alloc, left, right, column, rows)?,
+        Connective::Or => add_or(alloc, left, right, column, rows)?,
+        Connective::Iff => add_iff(alloc, left, right, column, rows)?,
+        Connective::Then => add_or(alloc, left.opposite(), right, column, rows)?,
+        Connective::From => add_or(alloc, left, right.opposite(), column, rows)?,
+    }
+    Ok(())
+}
+
+// A literal with a sign.
+fn plus(literal: Literal) -> Part
+    ensures { result ≡ record { sign = Plus; literal = literal } }
+{
+    Part {
+        sign: Sign::Plus,
+        literal,
+    }
+}
+
+fn minus(literal: Literal) -> Part
+    ensures { result ≡ record { sign = Minus; literal = literal } }
+{
+    Part {
+        sign: Sign::Minus,
+        literal,
+    }
+}
+
+fn add_and(
+    alloc: Global,
+    left: Literal,
+    right: Literal,
+    column: u32,
+    rows: &mut Vec<Row>,
+) -> Result<(), AllocError>
+    requires left { LiteralBelow column left }
+    requires right { LiteralBelow column right }
+    ensures { IfOk result (λ _. Added rows.old.items rows.new.items (connective_stated And left right column) (column + 1)) }
+{
+    rows.push(row_of(alloc, minus(left), nothing(), Sign::Plus, column, 0)?)?;
+    rows.push(row_of(alloc, minus(right), nothing(), Sign::Plus, column, 0)?)?;
+    rows.push(row_of(alloc, plus(left), plus(right), Sign::Minus, column, 1)?)?;
+    Ok(())
+}
+
+fn add_or(
+    alloc: Global,
+    left: Literal,
+    right: Literal,
+    column: u32,
+    rows: &mut Vec<Row>,
+) -> Result<(), AllocError>
+    requires left { LiteralBelow column left }
+    requires right { LiteralBelow column right }
+    ensures { IfOk result (λ _. Added rows.old.items rows.new.items (or_stated left right column) (column + 1)) }
+{
+    rows.push(row_of(alloc, plus(left), nothing(), Sign::Minus, column, 0)?)?;
+    rows.push(row_of(alloc, plus(right), nothing(), Sign::Minus, column, 0)?)?;
+    rows.push(row_of(alloc, minus(left), minus(right), Sign::Plus, column, 0)?)?;
+    Ok(())
+}
+
+fn add_iff(
+    alloc: Global,
+    left: Literal,
+    right: Literal,
+    column: u32,
+    rows: &mut Vec<Row>,
+) -> Result<(), AllocError>
+    requires left { LiteralBelow column left }
+    requires right { LiteralBelow column right }
+    ensures { IfOk result (λ _. Added rows.old.items rows.new.items (connective_stated Iff left right column) (column + 1)) }
+{
+    rows.push(row_of(alloc, plus(left), minus(right), Sign::Plus, column, 1)?)?;
+    rows.push(row_of(alloc, minus(left), plus(right), Sign::Plus, column, 1)?)?;
+    rows.push(row_of(alloc, minus(left), minus(right), Sign::Minus, column, -1)?)?;
+    rows.push(row_of(alloc, plus(left), plus(right), Sign::Minus, column, 1)?)?;
+    Ok(())
+}
