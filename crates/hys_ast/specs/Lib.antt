@@ -1,0 +1,4 @@
+pub mod Operators
+pub mod Tree
+pub mod Seen
+pub mod Grammar
