@@ -26,7 +26,7 @@ unfolding binary_at
 starts_not stop.Memory n operand ts e = tt
 starts_not (stop.Left k) n operand ts e = rw e refl
 
-step : (n : Level) (operand : List Lexeme → Read Tree) (fuel : ℕ) (a b : Tree) (rest next more : List Lexeme) (op : BinaryOp) (place : Place) → joint n rest ≡ Some (op, place, next) →
+pub step : (n : Level) (operand : List Lexeme → Read Tree) (fuel : ℕ) (a b : Tree) (rest next more : List Lexeme) (op : BinaryOp) (place : Place) → joint n rest ≡ Some (op, place, next) →
     operand next ≡ Ok (b, more) → groups n ≡ true → tail_at n operand (suc fuel) a rest ≡ tail_at n operand fuel (tree.Binary op a b place) more
 unfolding tail_at
 step n operand fuel a b rest next more op place j e g = rw (j, e, g) refl
@@ -57,7 +57,7 @@ goes_not s n operand ts a rest next op place j less e upto = go upto.fuel upto.e
     go zero enough same = absurd (omega arith)
     go (suc fuel) enough same = along s (binary_at n operand ts) (tail_at n operand (suc fuel) a rest) same (fails s n operand fuel a rest next op place j e)
 
-single : (n : Level) (operand : List Lexeme → Read Tree) (fuel : ℕ) (a b : Tree) (rest next more : List Lexeme) (op : BinaryOp) (place : Place) → joint n rest ≡ Some (op, place, next) →
+pub single : (n : Level) (operand : List Lexeme → Read Tree) (fuel : ℕ) (a b : Tree) (rest next more : List Lexeme) (op : BinaryOp) (place : Place) → joint n rest ≡ Some (op, place, next) →
     operand next ≡ Ok (b, more) → groups n ≡ false → tail_at n operand (suc fuel) a rest ≡ Ok (tree.Binary op a b place, more)
 unfolding tail_at
 single n operand fuel a b rest next more op place j e g = rw (j, e, g) refl
@@ -70,7 +70,7 @@ ends_once n operand ts a b rest next more op place j e less g upto = go upto.fue
     go zero enough same = absurd (omega arith)
     go (suc fuel) enough same = same ∙ single n operand fuel a b rest next more op place j e g
 
-stays : (n : Level) (operand : List Lexeme → Read Tree) (fuel : ℕ) (a : Tree) (rest : List Lexeme) → joint n rest ≡ None → tail_at n operand fuel a rest ≡ Ok (a, rest)
+pub stays : (n : Level) (operand : List Lexeme → Read Tree) (fuel : ℕ) (a : Tree) (rest : List Lexeme) → joint n rest ≡ None → tail_at n operand fuel a rest ≡ Ok (a, rest)
 unfolding tail_at
 stays n operand zero a rest j = refl
 stays n operand (suc fuel) a rest j = rw j refl

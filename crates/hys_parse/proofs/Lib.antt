@@ -1,2 +1,6 @@
 pub mod Heights
 pub mod Chains
+pub mod Turns
+pub mod Steps
+pub mod Sound
+pub mod Complete

@@ -1,9 +1,8 @@
 ghost use Rattle.std.specs.Prelude.{◌≡◌, suc, List, length, IfOk, MatchResult, ◌<◌, ◌≤◌};
 ghost use Rattle.hys_ast.specs.Seen.{tree_of};
-ghost use Rattle.hys_ast.specs.Grammar.{At};
-ghost use Rattle.hys_ast.specs.declared.level.Level.TheVariants.{Arrow};
 ghost use Rattle.hys_parse.specs.declared.stop.Stop.TheVariants.{Left};
 ghost use Rattle.hys_parse.specs.Reading.{Gives, cast_at, group_at, atom_at, signed_at, negation_at, operand_at, binary_at, nested};
+ghost use Rattle.hys_parse.specs.Sections.{expr_at};
 
 use crate::ahead::{after, expect, joint, not_ahead, sign_ahead, split, truth};
 use crate::stop::Stop;
@@ -157,9 +156,10 @@ fn binary(
     Ok((left, rest))
 }
 
-/// An expression at the front of the lexemes, and what stands behind it.
+// An expression at the front of the lexemes, and what stands behind it.
+#[tactic(auto, unfolding(crate::specs::Sections::expr_at))]
 pub fn expression(alloc: Global, room: usize, tokens: &[Lexeme]) -> Result<(Expr, &[Lexeme]), Stop>
-    ensures gives { Gives (λ p. (tree_of p.0, p.1.now)) result (binary_at Arrow (operand_at (nested room) Arrow) tokens.now) }
+    ensures gives { Gives (λ p. (tree_of p.0, p.1.now)) result (expr_at room tokens.now) }
     ensures shorter { IfOk result (λ p. length p.1.now < length tokens.now) }
 {
     binary(alloc, room, Level::Arrow, tokens)

@@ -2,7 +2,11 @@
 #![tactic(auto)]
 
 mod ahead;
+mod declaration;
 mod descent;
+mod draft;
+mod item;
+mod section;
 mod stop;
 
-pub use descent::expression;
+pub use section::source;
