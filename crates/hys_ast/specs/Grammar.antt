@@ -163,7 +163,7 @@ pub data DerivesInterface : List Section → List Lexeme → List Lexeme → Lis
   no_block : {seen : List Section} {ts : List Lexeme} → DerivesInterface seen ts ts []
   block : {seen : List Section} {s : Section} {next more rest : List Lexeme} {ds es : List Decl} (l opening closing : Lexeme) →
     interface_section l.kind ≡ Some s → among s seen ≡ false → Is (token.Sign sign.OPEN_BRACE) opening →
-    DerivesDecls s next (closing ∷ more) ds → Is (token.Sign sign.CLOSE_BRACE) closing → DerivesInterface (s ∷ seen) more rest es →
+    DerivesDecls s next (closing ∷ more) ds → Is (token.Sign sign.CLOSE_BRACE) closing → DerivesInterface (seen ++ s ∷ []) more rest es →
     DerivesInterface seen (l ∷ opening ∷ next) rest (ds ++ es)
 
 -- IF, THEN and maybe ELSE, in braces or without
@@ -226,11 +226,11 @@ pub data DerivesImplementation : List Section → List Lexeme → List Lexeme �
   no_sections : {seen : List Section} {ts : List Lexeme} → DerivesImplementation seen ts ts [] []
   aux : {seen : List Section} {next more rest : List Lexeme} {ds es : List Decl} {is : List Item} (l opening closing : Lexeme) →
     Is (token.Keyword keyword.AUX) l → among section.Aux seen ≡ false → Is (token.Sign sign.OPEN_BRACE) opening →
-    DerivesDecls section.Aux next (closing ∷ more) ds → Is (token.Sign sign.CLOSE_BRACE) closing → DerivesImplementation (section.Aux ∷ seen) more rest es is →
+    DerivesDecls section.Aux next (closing ∷ more) ds → Is (token.Sign sign.CLOSE_BRACE) closing → DerivesImplementation (seen ++ section.Aux ∷ []) more rest es is →
     DerivesImplementation seen (l ∷ opening ∷ next) rest (ds ++ es) is
   items : {seen : List Section} {s : Section} {next more rest : List Lexeme} {ds : List Decl} {is js : List Item} (l opening closing : Lexeme) →
     item_section l.kind ≡ Some s → among s seen ≡ false → Is (token.Sign sign.OPEN_BRACE) opening →
-    DerivesItems s next (closing ∷ more) is → Is (token.Sign sign.CLOSE_BRACE) closing → DerivesImplementation (s ∷ seen) more rest ds js →
+    DerivesItems s next (closing ∷ more) is → Is (token.Sign sign.CLOSE_BRACE) closing → DerivesImplementation (seen ++ s ∷ []) more rest ds js →
     DerivesImplementation seen (l ∷ opening ∷ next) rest ds (is ++ js)
 
 pub data DerivesSource : List Lexeme → List Lexeme → Source → Type 0 where

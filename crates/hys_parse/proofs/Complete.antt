@@ -114,7 +114,7 @@ behind_rank n a ts _ _ ended less = omega arith
 behind_rank n a _ rest e (joined {next = next} op l k h first later) less = omega (arith, joined_rank n l next op k h)
 
 -- What stands at the front of a part of an expression.
-abbrev arithmetic : Symbol → Bool
+abbrev pub arithmetic : Symbol → Bool
 arithmetic (At level.Compare) = true
 arithmetic (At level.Sum) = true
 arithmetic (At level.Term) = true
@@ -122,11 +122,12 @@ arithmetic Signed = true
 arithmetic Atom = true
 arithmetic _ = false
 
-record Front (s : Symbol) (ts : List Lexeme) : Type 0 where
-  no_real : after (token.Keyword keyword.REAL) ts ≡ None
-  no_not : arithmetic s ≡ true → not_at ts ≡ None
+pub record Front (s : Symbol) (ts : List Lexeme) : Type 0 where
+  pub no_real : after (token.Keyword keyword.REAL) ts ≡ None
+  pub no_brace : after (token.Sign sign.CLOSE_BRACE) ts ≡ None
+  pub no_not : arithmetic s ≡ true → not_at ts ≡ None
 
-abbrev Fronts : Symbol → List Lexeme → Type 0
+abbrev pub Fronts : Symbol → List Lexeme → Type 0
 Fronts (Behind n a) ts = Unit {0}
 Fronts (At n) ts = Front (At n) ts
 Fronts Negation ts = Front Negation ts
@@ -134,17 +135,17 @@ Fronts Signed ts = Front Signed ts
 Fronts Atom ts = Front Atom ts
 
 front_up : (n : Level) (ts : List Lexeme) → Fronts (operand n) ts → Front (At n) ts
-front_up level.Arrow ts f = record { no_real = f.no_real; no_not = λ h. absurd cc }
-front_up level.Or ts f = record { no_real = f.no_real; no_not = λ h. absurd cc }
-front_up level.And ts f = record { no_real = f.no_real; no_not = λ h. absurd cc }
-front_up level.Compare ts f = record { no_real = f.no_real; no_not = f.no_not }
-front_up level.Sum ts f = record { no_real = f.no_real; no_not = f.no_not }
-front_up level.Term ts f = record { no_real = f.no_real; no_not = f.no_not }
+front_up level.Arrow ts f = record { no_real = f.no_real; no_brace = f.no_brace; no_not = λ h. absurd cc }
+front_up level.Or ts f = record { no_real = f.no_real; no_brace = f.no_brace; no_not = λ h. absurd cc }
+front_up level.And ts f = record { no_real = f.no_real; no_brace = f.no_brace; no_not = λ h. absurd cc }
+front_up level.Compare ts f = record { no_real = f.no_real; no_brace = f.no_brace; no_not = f.no_not }
+front_up level.Sum ts f = record { no_real = f.no_real; no_brace = f.no_brace; no_not = f.no_not }
+front_up level.Term ts f = record { no_real = f.no_real; no_brace = f.no_brace; no_not = f.no_not }
 
 -- a token whose kind is neither REAL nor says not
-front_of : (s : Symbol) (k : TokenKind) (l : Lexeme) (ts : List Lexeme) → Is k l → same_kind k (token.Keyword keyword.REAL) ≡ false → is_not k ≡ false → Front s (l ∷ ts)
+front_of : (s : Symbol) (k : TokenKind) (l : Lexeme) (ts : List Lexeme) → Is k l → same_kind k (token.Keyword keyword.REAL) ≡ false → same_kind k (token.Sign sign.CLOSE_BRACE) ≡ false → is_not k ≡ false → Front s (l ∷ ts)
 unfolding not_at
-front_of s k l ts i r n = record { no_real = after_not (token.Keyword keyword.REAL) k l ts i r; no_not = λ h. rw (i, n) refl }
+front_of s k l ts i r b n = record { no_real = after_not (token.Keyword keyword.REAL) k l ts i r; no_brace = after_not (token.Sign sign.CLOSE_BRACE) k l ts i b; no_not = λ h. rw (i, n) refl }
 
 truth_not_real : (k : ℕ) (v : Bool) → truth_of k ≡ Some v → eqb k keyword.REAL ≡ false
 truth_not_real k v t = go (eqb k keyword.REAL) refl
@@ -153,6 +154,20 @@ truth_not_real k v t = go (eqb k keyword.REAL) refl
     go true e = let bad : truth_of keyword.REAL ≡ Some v = ap truth_of (sym (eqb-true k keyword.REAL e)) ∙ t in absurd cc
     go false e = refl
 
+not_no_brace : (s : ℕ) → is_not (token.Sign s) ≡ true → eqb s sign.CLOSE_BRACE ≡ false
+not_no_brace s e = go (eqb s sign.CLOSE_BRACE) refl
+  where
+    go : (b : Bool) → eqb s sign.CLOSE_BRACE ≡ b → b ≡ false
+    go true h = let bad : is_not (token.Sign sign.CLOSE_BRACE) ≡ true = ap (λ (n : ℕ). is_not (token.Sign n)) (sym (eqb-true s sign.CLOSE_BRACE h)) ∙ e in absurd cc
+    go false h = refl
+
+sign_no_brace : (s : ℕ) (op : UnaryOp) → sign_of (token.Sign s) ≡ Some op → eqb s sign.CLOSE_BRACE ≡ false
+sign_no_brace s op e = go (eqb s sign.CLOSE_BRACE) refl
+  where
+    go : (b : Bool) → eqb s sign.CLOSE_BRACE ≡ b → b ≡ false
+    go true h = let bad : sign_of (token.Sign sign.CLOSE_BRACE) ≡ Some op = ap (λ (n : ℕ). sign_of (token.Sign n)) (sym (eqb-true s sign.CLOSE_BRACE h)) ∙ e in absurd cc
+    go false h = refl
+
 not_front : (l : Lexeme) (ts : List Lexeme) → is_not l.kind ≡ true → Front Negation (l ∷ ts)
 not_front l ts h = go l.kind refl h
   where
@@ -160,7 +175,11 @@ not_front l ts h = go l.kind refl h
     go token.Name i e = absurd cc
     go token.Literal i e = absurd cc
     go (token.Keyword k) i e = absurd cc
-    go (token.Sign s) i e = record { no_real = after_not (token.Keyword keyword.REAL) (token.Sign s) l ts i refl; no_not = λ w. absurd cc }
+    go (token.Sign s) i e = record {
+      no_real = after_not (token.Keyword keyword.REAL) (token.Sign s) l ts i refl;
+      no_brace = after_not (token.Sign sign.CLOSE_BRACE) (token.Sign s) l ts i (not_no_brace s e);
+      no_not = λ w. absurd cc;
+    }
 
 sign_is_not : (s : ℕ) (op : UnaryOp) → sign_of (token.Sign s) ≡ Some op → is_not (token.Sign s) ≡ false
 sign_is_not s op e = elim (cond_is (eqb s sign.MINUS) _ _ _ e) [
@@ -178,23 +197,23 @@ sign_front op l ts h = go l.kind refl h
     go token.Name i e = absurd cc
     go token.Literal i e = absurd cc
     go (token.Keyword k) i e = absurd cc
-    go (token.Sign s) i e = front_of Signed (token.Sign s) l ts i refl (sign_is_not s op e)
+    go (token.Sign s) i e = front_of Signed (token.Sign s) l ts i refl (sign_no_brace s op e) (sign_is_not s op e)
 
-fronts : (s : Symbol) (ts rest : List Lexeme) (e : Tree) → Derives s ts rest e → Fronts s ts
+pub fronts : (s : Symbol) (ts rest : List Lexeme) (e : Tree) → Derives s ts rest e → Fronts s ts
 fronts (At n) ts rest e (chain {more = more} {a = a} g first later) = front_up n ts (fronts (operand n) ts more a first)
 fronts (At n) ts rest e (alone g first) = front_up n ts (fronts (operand n) ts rest e first)
 fronts (At n) ts rest _ (pair {next = next} {a = a} op l g first k h later) = front_up n ts (fronts (operand n) ts (l ∷ next) a first)
 fronts (Behind n a) ts _ _ ended = tt
 fronts (Behind n a) _ rest e (joined op l k h first later) = tt
 fronts Negation _ rest _ (negated {next = next} l k d) = not_front l next k
-fronts Negation ts rest e (compared d) = let f = fronts (At level.Compare) ts rest e d in record { no_real = f.no_real; no_not = λ h. absurd cc }
+fronts Negation ts rest e (compared d) = let f = fronts (At level.Compare) ts rest e d in record { no_real = f.no_real; no_brace = f.no_brace; no_not = λ h. absurd cc }
 fronts Signed _ rest _ (signed {next = next} op l k d) = sign_front op l next k
-fronts Signed ts rest e (unsigned d) = let f = fronts Atom ts rest e d in record { no_real = f.no_real; no_not = λ h. f.no_not refl }
-fronts Atom _ rest _ (literal l k) = front_of Atom token.Literal l rest k refl refl
-fronts Atom _ rest _ (name l k) = front_of Atom token.Name l rest k refl refl
-fronts Atom _ rest _ (truth l k v i t) = front_of Atom (token.Keyword k) l rest i (truth_not_real k v t) refl
-fronts Atom _ rest _ (cast o r l c i j k m) = front_of Atom (token.Sign sign.OPEN_PARENTHESIS) o (r ∷ l ∷ c ∷ rest) i refl refl
-fronts Atom _ rest e (group {next = next} o c i d k) = front_of Atom (token.Sign sign.OPEN_PARENTHESIS) o next i refl refl
+fronts Signed ts rest e (unsigned d) = let f = fronts Atom ts rest e d in record { no_real = f.no_real; no_brace = f.no_brace; no_not = λ h. f.no_not refl }
+fronts Atom _ rest _ (literal l k) = front_of Atom token.Literal l rest k refl refl refl
+fronts Atom _ rest _ (name l k) = front_of Atom token.Name l rest k refl refl refl
+fronts Atom _ rest _ (truth l k v i t) = front_of Atom (token.Keyword k) l rest i (truth_not_real k v t) refl refl
+fronts Atom _ rest _ (cast o r l c i j k m) = front_of Atom (token.Sign sign.OPEN_PARENTHESIS) o (r ∷ l ∷ c ∷ rest) i refl refl refl
+fronts Atom _ rest e (group {next = next} o c i d k) = front_of Atom (token.Sign sign.OPEN_PARENTHESIS) o next i refl refl refl
 
 unsigned_kind : (k : TokenKind) (l : Lexeme) (ts : List Lexeme) → Is k l → sign_of k ≡ None → sign_at (l ∷ ts) ≡ None
 unfolding sign_at
@@ -277,7 +296,7 @@ group_reads : (room : ℕ) (o c : Lexeme) (next rest : List Lexeme) (e : Tree) �
 unfolding reader atom_at group_at whole_at
 group_reads room o c next rest e i n d m = rw (i, n, d, expect_is (token.Sign sign.CLOSE_PARENTHESIS) c rest m) refl
 
-closes : (k : TokenKind) (l : Lexeme) (ts : List Lexeme) → Is k l → binary_of k ≡ None → front_rank (l ∷ ts) < 1
+pub closes : (k : TokenKind) (l : Lexeme) (ts : List Lexeme) → Is k l → binary_of k ≡ None → front_rank (l ∷ ts) < 1
 closes k l ts i e = omega (arith, ap (λ (j : TokenKind). op_rank (binary_of j)) i, ap op_rank e)
 
 pub complete : (s : Symbol) (ts rest : List Lexeme) (e : Tree) → Derives s ts rest e → (room : ℕ) → length ts ≤ room → front_rank rest < rank_of s → Reads room s ts rest e

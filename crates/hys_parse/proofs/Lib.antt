@@ -4,3 +4,4 @@ pub mod Turns
 pub mod Steps
 pub mod Sound
 pub mod Complete
+pub mod CompleteParts

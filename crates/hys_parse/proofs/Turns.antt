@@ -44,7 +44,7 @@ goes_not {A} s turn first all a ts e upto = go upto.fuel upto.enough upto.same
     go zero enough same = absurd (omega arith)
     go (suc fuel) enough same = along s (all_turns turn first all) (turns turn (suc fuel) a ts) same (fails s turn fuel a ts e)
 
-last : {A : Type 0} (turn : A → List Lexeme → Turn A) (fuel : ℕ) (a b : A) (ts next : List Lexeme) (more : Bool) → turn a ts ≡ Ok (b, more, next) → more ≡ false → turns turn (suc fuel) a ts ≡ Ok (b, next)
+pub last : {A : Type 0} (turn : A → List Lexeme → Turn A) (fuel : ℕ) (a b : A) (ts next : List Lexeme) (more : Bool) → turn a ts ≡ Ok (b, more, next) → more ≡ false → turns turn (suc fuel) a ts ≡ Ok (b, next)
 unfolding turns
 last turn fuel a b ts next more t e = rw (t, e) refl
 
@@ -55,3 +55,13 @@ ends {A} turn first all a b ts next more t e upto = go upto.fuel upto.enough upt
     go : (fuel : ℕ) → length ts < fuel → all_turns turn first all ≡ turns turn fuel a ts → all_turns turn first all ≡ Ok (b, next)
     go zero enough same = absurd (omega arith)
     go (suc fuel) enough same = same ∙ last turn fuel a b ts next more t e
+
+-- the first turn of some, and the last one
+pub first_turn : {A : Type 0} (turn : A → List Lexeme → Turn A) (fuel : ℕ) (a b : A) (ts next : List Lexeme) (r : Read A) → turn a ts ≡ Ok (b, true, next) → length ts < fuel → length next < length ts →
+    ((left : ℕ) → length next < left → turns turn left b next ≡ r) → turns turn fuel a ts ≡ r
+first_turn turn zero a b ts next r t enough less later = absurd (omega arith)
+first_turn turn (suc fuel) a b ts next r t enough less later = step turn fuel a b ts next true t refl ∙ later fuel (omega arith)
+
+pub last_turn : {A : Type 0} (turn : A → List Lexeme → Turn A) (fuel : ℕ) (a b : A) (ts next : List Lexeme) → turn a ts ≡ Ok (b, false, next) → 0 < fuel → turns turn fuel a ts ≡ Ok (b, next)
+last_turn turn zero a b ts next t enough = absurd (omega arith)
+last_turn turn (suc fuel) a b ts next t enough = last turn fuel a b ts next false t refl
