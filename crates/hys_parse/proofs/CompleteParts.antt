@@ -100,7 +100,7 @@ kind_at_is : (l : Lexeme) (ts : List Lexeme) (k : Kind) → kind_of l.kind ≡ S
 unfolding kind_at
 kind_at_is l ts k e = rw e refl
 
-kind_at_not : (l : Lexeme) (ts : List Lexeme) → Is (token.Sign sign.CLOSE_BRACE) l → kind_at (l ∷ ts) ≡ None
+pub kind_at_not : (l : Lexeme) (ts : List Lexeme) → Is (token.Sign sign.CLOSE_BRACE) l → kind_at (l ∷ ts) ≡ None
 unfolding kind_at
 kind_at_not l ts i = rw i refl
 
@@ -117,14 +117,14 @@ all_names : (room : ℕ) (s : Section) (k : Kind) (ts rest : List Lexeme) (ds be
 unfolding all_turns
 all_names room s k ts rest ds before end d i fits = names_complete room s k ts (end ∷ rest) ds d end rest refl i fits before (suc (length ts)) (omega arith)
 
-decls_complete : (room : ℕ) (s : Section) (ts rest : List Lexeme) (ds : List Decl) → DerivesDecls s ts rest ds → kind_at rest ≡ None → length ts ≤ room → (before : List Decl) (fuel : ℕ) → length ts < fuel → turns (line_turn room s) fuel before ts ≡ Ok (before ++ ds, rest)
+pub decls_complete : (room : ℕ) (s : Section) (ts rest : List Lexeme) (ds : List Decl) → DerivesDecls s ts rest ds → kind_at rest ≡ None → length ts ≤ room → (before : List Decl) (fuel : ℕ) → length ts < fuel → turns (line_turn room s) fuel before ts ≡ Ok (before ++ ds, rest)
 decls_complete room s ts _ _ no_decls n fits before fuel enough = last_turn (line_turn room s) fuel before before ts ts (no_line room s before ts n) (omega arith) ∙ ap (λ (x : List Decl). Ok (x, ts)) (sym (append-nil before))
 decls_complete room s _ rest _ (line {k = k} {next = next} {more = more} {ds = ds} {es = es} l end w here i later) n fits before fuel enough =
     let less : length (end ∷ more) < length next = names_shrink s k next (end ∷ more) ds here in
     first_turn (line_turn room s) fuel before (before ++ ds) (l ∷ next) more (Ok (before ++ (ds ++ es), rest)) (line_reads room s k before ds l end next more w (all_names room s k next more ds before end here i (omega arith)) i) enough (omega arith)
     (λ left wide. decls_complete room s more rest es later n (omega arith) (before ++ ds) left wide ∙ ap (λ (x : List Decl). Ok (x, rest)) (append_assoc before ds es))
 
-decls_shrink : (s : Section) (ts rest : List Lexeme) (ds : List Decl) → DerivesDecls s ts rest ds → length rest ≤ length ts
+pub decls_shrink : (s : Section) (ts rest : List Lexeme) (ds : List Decl) → DerivesDecls s ts rest ds → length rest ≤ length ts
 decls_shrink s ts _ _ no_decls = omega arith
 decls_shrink s _ rest _ (line {k = k} {next = next} {more = more} {ds = ds} {es = es} l end w here i later) = omega (arith, names_shrink s k next (end ∷ more) ds here, decls_shrink s more rest es later)
 
@@ -227,7 +227,7 @@ no_item : (room : ℕ) (s : Section) (before : List Item) (ts rest : List Lexeme
 unfolding item_turn
 no_item room s before ts rest n = rw n refl
 
-items_complete : (room : ℕ) (s : Section) (ts end : List Lexeme) (xs : List Item) → DerivesItems s ts end xs → (z : Lexeme) (rest : List Lexeme) → end ≡ z ∷ rest → Is (token.Sign sign.CLOSE_BRACE) z → length ts ≤ room → (before : List Item) (fuel : ℕ) → length ts < fuel →
+pub items_complete : (room : ℕ) (s : Section) (ts end : List Lexeme) (xs : List Item) → DerivesItems s ts end xs → (z : Lexeme) (rest : List Lexeme) → end ≡ z ∷ rest → Is (token.Sign sign.CLOSE_BRACE) z → length ts ≤ room → (before : List Item) (fuel : ℕ) → length ts < fuel →
     turns (item_turn room s) fuel before ts ≡ Ok (before ++ xs, rest)
 items_complete room s ts _ _ no_items z rest at i fits before fuel enough =
     let a : after (token.Sign sign.CLOSE_BRACE) ts ≡ Some rest = rw at (after_is (token.Sign sign.CLOSE_BRACE) z rest i) in
@@ -237,6 +237,6 @@ items_complete room s ts end _ (item {more = more} {i = x} {is = xs} here later)
     first_turn (item_turn room s) fuel before (before ++ x ∷ []) ts more (Ok (before ++ x ∷ xs, rest)) (item_reads room s before ts more x (item_front s ts more x here) (item_complete room s ts more x here fits)) enough less
     (λ left wide. items_complete room s more end xs later z rest at i (omega arith) (before ++ x ∷ []) left wide ∙ ap (λ (y : List Item). Ok (y, rest)) (append_assoc before (x ∷ []) xs))
 
-items_shrink : (s : Section) (ts rest : List Lexeme) (xs : List Item) → DerivesItems s ts rest xs → length rest ≤ length ts
+pub items_shrink : (s : Section) (ts rest : List Lexeme) (xs : List Item) → DerivesItems s ts rest xs → length rest ≤ length ts
 items_shrink s ts _ _ no_items = omega arith
 items_shrink s ts rest _ (item {more = more} {i = x} {is = xs} here later) = omega (arith, item_shrinks s ts more x here, items_shrink s more rest xs later)
