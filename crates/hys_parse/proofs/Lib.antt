@@ -6,3 +6,4 @@ pub mod Sound
 pub mod Complete
 pub mod CompleteParts
 pub mod CompleteSource
+pub mod SoundParts
