@@ -7,3 +7,4 @@ pub mod Complete
 pub mod CompleteParts
 pub mod CompleteSource
 pub mod SoundParts
+pub mod SoundSource

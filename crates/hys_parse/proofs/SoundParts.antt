@@ -115,10 +115,10 @@ further_is : (s : Section) (k : Kind) (ts past next rest : List Lexeme) (comma :
 further_is s k ts past next rest comma d ds here e i later = let P : List Lexeme → Type 0 = λ x. DerivesDecl s k ts x d in further comma (subst P e here) i later
 
 -- what turns read behind what was read before
-abbrev Behind : {A : Type 0} → (List Lexeme → List Lexeme → List A → Type 0) → List A → List Lexeme → List A × List Lexeme → Type 0
+abbrev pub Behind : {A : Type 0} → (List Lexeme → List Lexeme → List A → Type 0) → List A → List Lexeme → List A × List Lexeme → Type 0
 Behind {A} D before ts p = (more : List A) × (p.0 ≡ before ++ more) × D ts p.1 more
 
-put_before : {A : Type 0} (before first more whole mid : List A) → mid ≡ before ++ first → whole ≡ mid ++ more → whole ≡ before ++ (first ++ more)
+pub put_before : {A : Type 0} (before first more whole mid : List A) → mid ≡ before ++ first → whole ≡ mid ++ more → whole ≡ before ++ (first ++ more)
 put_before before first more whole mid e f = f ∙ ap (λ x. x ++ more) e ∙ append_assoc before first more
 
 names_sound : (room : ℕ) (s : Section) (k : Kind) (fuel : ℕ) (before : List Decl) (ts : List Lexeme) (p : List Decl × List Lexeme) → turns (name_turn room s k) fuel before ts ≡ Ok p → Behind (DerivesNames s k) before ts p
@@ -178,7 +178,7 @@ line_is s k l end ts next past more rest ds es a w here b i later = let P : List
 ended_is : (s : Section) (before : List Decl) (ts : List Lexeme) (x : List Decl × Bool × List Lexeme) (p : List Decl × List Lexeme) → (before, false, ts) ≡ x → (x.0, x.2) ≡ p → Behind (DerivesDecls s) before ts p
 ended_is s before ts x p e f = rw (← f, ← e) ([], sym (append-nil before), no_decls)
 
-decls_sound : (room : ℕ) (s : Section) (fuel : ℕ) (before : List Decl) (ts : List Lexeme) (p : List Decl × List Lexeme) → turns (line_turn room s) fuel before ts ≡ Ok p → Behind (DerivesDecls s) before ts p
+pub decls_sound : (room : ℕ) (s : Section) (fuel : ℕ) (before : List Decl) (ts : List Lexeme) (p : List Decl × List Lexeme) → turns (line_turn room s) fuel before ts ≡ Ok p → Behind (DerivesDecls s) before ts p
 unfolding turns line_turn
 decls_sound room s zero before ts p e = absurd cc
 decls_sound room s (suc fuel) before ts p e =
@@ -293,13 +293,13 @@ item_sound room section.OutputItem ts p h e = named_formula_sound room section.O
 item_sound room _ ts p h e = absurd cc
 
 -- Items up to a brace: p.1 is what stands behind the brace.
-abbrev BehindItems : Section → List Item → List Lexeme → List Item × List Lexeme → Type 0
+abbrev pub BehindItems : Section → List Item → List Lexeme → List Item × List Lexeme → Type 0
 BehindItems s before ts p = (more : List Item) × (z : Lexeme) × (p.0 ≡ before ++ more) × Is (token.Sign sign.CLOSE_BRACE) z × DerivesItems s ts (z ∷ p.1) more
 
 no_item_is : (s : Section) (before : List Item) (ts rest : List Lexeme) (z : Lexeme) (x : List Item × Bool × List Lexeme) (p : List Item × List Lexeme) → ts ≡ z ∷ rest → Is (token.Sign sign.CLOSE_BRACE) z → (before, false, rest) ≡ x → (x.0, x.2) ≡ p → BehindItems s before ts p
 no_item_is s before ts rest z x p a i e f = rw (← f, ← e, a) ([], z, sym (append-nil before), i, no_items)
 
-items_sound : (room : ℕ) (s : Section) → declares s ≡ false → (fuel : ℕ) (before : List Item) (ts : List Lexeme) (p : List Item × List Lexeme) → turns (item_turn room s) fuel before ts ≡ Ok p → BehindItems s before ts p
+pub items_sound : (room : ℕ) (s : Section) → declares s ≡ false → (fuel : ℕ) (before : List Item) (ts : List Lexeme) (p : List Item × List Lexeme) → turns (item_turn room s) fuel before ts ≡ Ok p → BehindItems s before ts p
 unfolding turns item_turn
 items_sound room s h zero before ts p e = absurd cc
 items_sound room s h (suc fuel) before ts p e =
