@@ -8,7 +8,7 @@ mod source;
 mod tree;
 
 pub use level::Level;
-pub use lexeme::Lexeme;
-pub use place::Place;
+pub use lexeme::{Lexeme, lexemes};
+pub use place::{Place, place_of};
 pub use source::{Decl, Item, Kind, Section, Shape, Source};
 pub use tree::{BinaryOp, Expr, UnaryOp};

@@ -1,0 +1,7 @@
+pub mod Bytes
+pub mod Words
+pub mod Pieces
+pub mod Cut
+pub mod Reading
+pub mod Spaced
+pub mod Named

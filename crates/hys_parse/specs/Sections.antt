@@ -202,3 +202,7 @@ source_at room ts = do
   whole ← part_at room part.Implementation declared.0.decls implementation.1
   end ← expect (token.Sign sign.CLOSE_BRACE) whole.1
   Ok (record { system = l.0.text; decls = whole.0.decls; items = whole.0.items }, end.1)
+
+-- a source and nothing behind it
+unfoldable pub whole_at : List Lexeme → Result Source ℕ
+whole_at ts = source_at (length ts) ts >>= λ p. if length p.1 == 0 then Ok p.0 else Err (length p.1)

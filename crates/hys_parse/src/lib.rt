@@ -3,10 +3,13 @@
 
 mod ahead;
 mod declaration;
+mod deep;
 mod descent;
 mod draft;
 mod item;
+mod parser;
 mod section;
 mod stop;
 
-pub use section::source;
+pub use deep::MOST;
+pub use parser::{ParseFault, parse};
