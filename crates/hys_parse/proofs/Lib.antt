@@ -8,3 +8,4 @@ pub mod CompleteParts
 pub mod CompleteSource
 pub mod SoundParts
 pub mod SoundSource
+pub mod Whole

@@ -8,14 +8,14 @@ use hys_lex::{Token, TokenKind, sign};
 /// The greatest depth that a token may have.
 pub const MOST: u32 = 64;
 
-fn opened(open: u32, kind: TokenKind) -> u32
-    requires { open < 2 ^ 31 }
-    ensures { result ≡ opened open kind }
+fn opened(count: u32, kind: TokenKind) -> u32
+    requires { count < 2 ^ 31 }
+    ensures { result ≡ opened count kind }
 {
     match kind {
-        TokenKind::Sign(sign::OPEN_PARENTHESIS) => open + 1,
-        TokenKind::Sign(sign::CLOSE_PARENTHESIS) => open.saturating_sub(1),
-        _ => open,
+        TokenKind::Sign(sign::OPEN_PARENTHESIS) => count + 1,
+        TokenKind::Sign(sign::CLOSE_PARENTHESIS) => count.saturating_sub(1),
+        _ => count,
     }
 }
 

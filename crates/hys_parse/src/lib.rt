@@ -10,6 +10,8 @@ mod item;
 mod parser;
 mod section;
 mod stop;
+#[cfg(test)]
+mod tests;
 
 pub use deep::MOST;
 pub use parser::{ParseFault, parse};

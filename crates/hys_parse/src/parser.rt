@@ -49,13 +49,12 @@ fn whole(alloc: Global, lexemes: &[Lexeme]) -> Result<Source, Stop>
     }
 }
 
-fn fault(stop: Stop, tokens: &[Token]) -> ParseFault
+// The place of the token that has so many left, itself among them.
+fn place(tokens: &[Token], left: usize) -> u32
     requires { length tokens.now < 2 ^ 32 }
+    ensures { result ≡ length tokens.now - left }
 {
-    match stop {
-        Stop::Left(left) => ParseFault::Syntax(tokens.len().saturating_sub(left) as u32),
-        Stop::Memory => ParseFault::Memory,
-    }
+    tokens.len().saturating_sub(left) as u32
 }
 
 /// The tree of the tokens of a text, by the grammar.
@@ -79,6 +78,7 @@ pub fn parse(alloc: Global, tokens: &[Token], text: &[u8]) -> Result<Source, Par
     let lexemes = lexemes(alloc, tokens, text)?;
     match whole(alloc, lexemes.as_slice()) {
         Ok(source) => Ok(source),
-        Err(stop) => Err(fault(stop, tokens)),
+        Err(Stop::Left(left)) => Err(ParseFault::Syntax(place(tokens, left))),
+        Err(Stop::Memory) => Err(ParseFault::Memory),
     }
 }
