@@ -1,0 +1,5 @@
+pub mod Operators
+pub mod Places
+pub mod Tree
+pub mod Seen
+pub mod Grammar

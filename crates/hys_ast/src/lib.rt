@@ -1,0 +1,14 @@
+//! Trees of a source, the places of its tokens, and the grammar that ties the two.
+#![tactic(auto)]
+
+mod level;
+mod lexeme;
+mod place;
+mod source;
+mod tree;
+
+pub use level::Level;
+pub use lexeme::{Lexeme, lexemes};
+pub use place::{Place, place_of};
+pub use source::{Decl, Item, Kind, Section, Shape, Source};
+pub use tree::{BinaryOp, Expr, UnaryOp};

@@ -1,0 +1,17 @@
+//! The parser: lexemes are read from left to right, with one of them looked at ahead.
+#![tactic(auto)]
+
+mod ahead;
+mod declaration;
+mod deep;
+mod descent;
+mod draft;
+mod item;
+mod parser;
+mod section;
+mod stop;
+#[cfg(test)]
+mod tests;
+
+pub use deep::MOST;
+pub use parser::{ParseFault, parse};
