@@ -5,7 +5,7 @@ use Rattle.hys_number.specs.Number.{Number}
 use Rattle.hys_number.specs.Ops.{whole, ◌<ₙ◌}
 use Rattle.hys_number.proofs.Laws.{whole-ratio}
 use Rattle.hys_number.proofs.Scale.{overs}
-use Rattle.hys_frac.proofs.Fracs.{eq_is}
+use Rattle.hys_frac.specs.Compare.{eq_is}
 
 abbrev same_parts : Number → Number → Bool
 same_parts q r = int_eq q.num r.num && int_eq (pos q.den) (pos r.den)
