@@ -4,3 +4,4 @@ pub mod Wholes
 pub mod Numerals
 pub mod Powers
 pub mod Readings
+pub mod RoundTrip
