@@ -1,12 +1,12 @@
 -- What the rows of a connective say at truth values.
-use Rattle.std.specs.Prelude.{◌≡◌, ℕ, ◌+◌, ◌<◌, ◌≤◌, ◌↔◌, List, [], ◌∷◌, Bool, true, false, ◌&&◌, ◌||◌, not, ℤ, pos, negsuc}
+use Rattle.std.specs.Prelude.{◌≡◌, ℕ, ◌<◌, ◌↔◌, List, [], ◌∷◌, Bool, true, false, ◌&&◌, ◌||◌, not, ℤ, pos, negsuc}
 use Rattle.std.proofs.Common.{refl, sym, ◌∙◌, ap, ap₂, arith, subst}
 use Rattle.hys_number.specs.Number.{Number}
 use Rattle.hys_number.specs.Ops.{◌+ₙ◌, ◌-ₙ◌, neg, ◌≤ₙ◌, whole}
-use Rattle.hys_number.proofs.Laws.{ratio, whole-ratio}
+use Rattle.hys_number.proofs.Laws.{whole-ratio}
 use Rattle.hys_number.proofs.Field.{neg-add}
 use Rattle.hys_number.proofs.Scale.{overs, common6, common6_of}
-use Rattle.hys_number.proofs.Ring.{by_ring, v as x, k, minus, ◌⊕◌, ◌⊗◌, ◌⊖◌}
+use Rattle.hys_number.proofs.Ring.{by_ring, v as x, k, minus, ◌⊕◌, ◌⊖◌}
 use Rattle.hys_lin.specs.Sums.{Assignment}
 use Rattle.hys_prog.specs.declared.formula.Connective.{Connective}
 use Rattle.hys_prog.specs.declared.formula.Connective.TheVariants.{And, Or, Iff, Then, From}
@@ -15,8 +15,8 @@ use Rattle.hys_logic.specs.declared.literal.Literal.{Literal}
 use Rattle.hys_logic.specs.declared.literal.Literal.TheVariants.{Fixed, Column}
 use Rattle.hys_logic.specs.declared.row.Sign.{Sign}
 use Rattle.hys_logic.specs.declared.row.Sign.TheVariants.{Plus, Minus}
-use Rattle.hys_logic.specs.Literals.{column_part, constant_part, part_by, number_of, opposite}
-use Rattle.hys_logic.specs.Rows.{signed, int, row_by, connective_stated, or_stated}
+use Rattle.hys_logic.specs.Literals.{column_part, constant_part, number_of, opposite}
+use Rattle.hys_logic.specs.Rows.{signed, int, row_by, connective_stated}
 use Rattle.hys_logic.specs.Stated.{Stated}
 use Rattle.hys_logic.proofs.Smalls.{int-whole, int-minus}
 

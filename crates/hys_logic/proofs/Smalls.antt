@@ -1,17 +1,14 @@
 -- Small whole numbers.
-use Rattle.std.specs.Prelude.{◌≡◌, ℕ, zero, suc, ◌+◌, ◌<◌, ◌≤◌, ℤ, pos, negsuc, ◌+ℤ◌, ◌-ℤ◌, neg_ℤ, unsigned_abs, IsTrue, Bool, true, false}
-use Rattle.std.proofs.Common.{refl, sym, ◌∙◌, ap, ap₂, arith}
-use borrow.Author.Differences.{ints, up, down, sum_is_lem, neg_is}
-use Rattle.hys_number.specs.Number.{Number, make}
+use Rattle.std.specs.Prelude.{◌≡◌, ℕ, ◌<◌, ℤ, pos, negsuc, ◌-ℤ◌, neg_ℤ, true}
+use Rattle.std.proofs.Common.{refl, arith}
+use borrow.Author.Differences.{ints, up, down, neg_is}
+use Rattle.hys_number.specs.Number.{make}
 use Rattle.hys_number.specs.Gcd.{gcd}
 use Rattle.hys_number.specs.Ops.{◌+ₙ◌, ◌-ₙ◌, neg, whole, fits}
 use Rattle.hys_number.proofs.Ratio.{make_is}
 use Rattle.hys_number.proofs.Laws.{ratio, ratio_of_is, whole-ratio}
 use Rattle.hys_number.proofs.Scale.{overs}
-use Rattle.hys_prog.specs.Formulas.{bit}
-use Rattle.hys_logic.specs.declared.row.Sign.{Sign}
-use Rattle.hys_logic.specs.declared.row.Sign.TheVariants.{Plus, Minus}
-use Rattle.hys_logic.specs.Rows.{int, signed}
+use Rattle.hys_logic.specs.Rows.{int}
 
 int-ratio : (z : ℤ) → int z ≡ ratio (up z) (down z) 1
 int-ratio z = ratio_of_is (make z 1) (up z) (down z) 1 (omega arith) (make_is z 1 (omega arith))

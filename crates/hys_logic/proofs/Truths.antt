@@ -1,14 +1,14 @@
 -- The rows of a formula hold exactly where the fresh columns have their truths.
-use Rattle.std.specs.Prelude.{◌≡◌, ℕ, zero, suc, ◌+◌, ◌*◌, ◌<◌, ◌≤◌, List, [], ◌∷◌, ◌++◌, length, ◌↔◌, ◌⊎◌, Bool, true, false, not}
-use Rattle.std.proofs.Common.{refl, sym, ◌∙◌, ap, ap₂, arith, subst, ⊎_elim, length-append, append_assoc}
+use Rattle.std.specs.Prelude.{◌≡◌, ℕ, zero, suc, ◌+◌, ◌*◌, ◌<◌, ◌≤◌, List, [], ◌∷◌, ◌++◌, length, ◌↔◌, Bool}
+use Rattle.std.proofs.Common.{refl, sym, ◌∙◌, ap, arith, subst, ⊎_elim, length-append, append_assoc}
 use Rattle.hys_number.specs.Number.{Number, make}
 use Rattle.hys_number.specs.Gcd.{gcd}
-use Rattle.hys_number.specs.Ops.{◌+ₙ◌, ◌-ₙ◌, neg, ◌≤ₙ◌, whole}
+use Rattle.hys_number.specs.Ops.{◌+ₙ◌, ◌≤ₙ◌, whole}
 use Rattle.hys_number.proofs.Field.{add_zero}
 use Rattle.hys_number.proofs.Ring.{by_ring, v as var, k as num, ◌⊕◌}
 use Rattle.hys_lin.specs.declared.form.Term.{Term}
 use Rattle.hys_lin.specs.declared.form.Row.{Row}
-use Rattle.hys_lin.specs.Sums.{Assignment, sum_of, value, Holds, HoldAll, EachColumn}
+use Rattle.hys_lin.specs.Sums.{Assignment, Holds, HoldAll, EachColumn}
 use Rattle.hys_prog.specs.declared.formula.Connective.{Connective}
 use Rattle.hys_prog.specs.declared.formula.Connective.TheVariants.{And, Or, Iff, Then, From}
 use Rattle.hys_prog.specs.Formulas.{FormulaTree, constant, named, negated, joined, bit, IsBit, is_one, truth, connect, connectives, EachName}

@@ -1,5 +1,5 @@
 -- Literals, and which one stands for a formula.
-use Rattle.std.specs.Prelude.{◌≡◌, ℕ, ◌+◌, ◌<◌, List, Bool, true, false, not}
+use Rattle.std.specs.Prelude.{ℕ, ◌+◌, ◌<◌, List, Bool, true, false, not}
 use Rattle.std.proofs.Common.{get_or}
 use Rattle.hys_number.specs.Number.{Number}
 use Rattle.hys_number.specs.Ops.{◌+ₙ◌, neg, whole}

@@ -4,7 +4,7 @@ ghost use Rattle.hys_lin.specs.Sums.{Assignment, value, AreTerms, EachColumn, Ho
 ghost use Rattle.hys_prog.specs.Formulas.{tree_of, connectives, EachName, IsBit, bit, truth};
 ghost use Rattle.hys_logic.specs.declared.row.Sign.TheVariants.{Plus, Minus};
 ghost use Rattle.hys_prog.specs.declared.formula.Connective.TheVariants.{And, Iff};
-ghost use Rattle.hys_logic.specs.Literals.{column_in, literal_of, LiteralBelow};
+ghost use Rattle.hys_logic.specs.Literals.{column_in, literal_of, number_of, LiteralBelow};
 ghost use Rattle.hys_logic.specs.Rows.{Added, Agrees, BitsFrom, fresh_of, stated_of, connective_stated, or_stated};
 ghost use Rattle.hys_logic.specs.Stated.{AreRows, EachBelow};
 
@@ -37,6 +37,7 @@ pub fn rows_of(
     requires count { connectives (tree_of formula.now) < 2 ^ 32 }
     ensures solution { IfOk result (λ l. (v : Assignment) → EachName (λ n. IsBit (v (column_in columns.now n))) (tree_of formula.now) → BitsFrom v first_free l.fresh → HoldAll v l.rows ↔ Agrees v first_free (fresh_of (tree_of formula.now) (λ n. v (column_in columns.now n)))) }
     ensures literal { IfOk result (λ l. (v : Assignment) → EachName (λ n. IsBit (v (column_in columns.now n))) (tree_of formula.now) → Agrees v first_free (fresh_of (tree_of formula.now) (λ n. v (column_in columns.now n))) → value l.literal v ≡ bit (truth (tree_of formula.now) (λ n. v (column_in columns.now n)))) }
+    ensures literal_stated { IfOk result (λ l. (v : Assignment) → value l.literal v ≡ number_of (literal_of (column_in columns.now) first_free (tree_of formula.now)) v) }
     ensures fresh { IfOk result (λ l. l.fresh ≡ connectives (tree_of formula.now)) }
     ensures stated { IfOk result (λ l. AreRows l.rows (stated_of (column_in columns.now) first_free (tree_of formula.now))) }
     ensures count { IfOk result (λ l. length l.rows ≤ 4 * connectives (tree_of formula.now)) }

@@ -2,7 +2,7 @@ ghost use Rattle.std.specs.Prelude.{◌≡◌, ◌+◌, ◌≤◌, ◌<◌, IfSo
 ghost use Rattle.hys_prog.specs.Formulas.{tree_of, connectives, EachName};
 ghost use Rattle.hys_logic.specs.Literals.{column_in};
 
-use crate::{rows_of, Logic};
+use crate::{Logic, rows_of};
 use hys_lin::Row;
 use hys_prog::{Connective, Formula};
 use std::alloc::{AllocError, Global};
@@ -24,7 +24,10 @@ fn small(formula: &Formula, columns: &[u32], first_free: u32) -> Option<u32>
         }
         Formula::Not(inner) => small(inner, columns, first_free),
         Formula::Join(_, left, right) => {
-            match (small(left, columns, first_free), small(right, columns, first_free)) {
+            match (
+                small(left, columns, first_free),
+                small(right, columns, first_free),
+            ) {
                 (Some(a), Some(b)) if a + b < 5000 => Some(a + b + 1),
                 _ => None,
             }
@@ -42,11 +45,7 @@ fn join(
     left: Formula,
     right: Formula,
 ) -> Result<Formula, AllocError> {
-    Ok(Formula::Join(
-        connective,
-        Box::new(alloc, left)?,
-        Box::new(alloc, right)?,
-    ))
+    Ok(Formula::Join(connective, Box::new(alloc, left)?, Box::new(alloc, right)?))
 }
 
 // A row as `factor@column .. <= bound`, all numbers being whole.
@@ -128,19 +127,52 @@ fn connective_of(sign: u8) -> Connective {
 fn rows_are_the_stated_ones(rt: HostRuntime) {
     let alloc = rt.alloc();
     for (text, want) in [
-        ("ab~=", "1@0 1@1 1@2 <= 2; -1@0 -1@1 1@2 <= 0; -1@0 1@1 -1@2 <= 0; 1@0 -1@1 -1@2 <= 0; 1@2 + 0, 1 fresh"),
+        (
+            "ab~=",
+            "1@0 1@1 1@2 <= 2; -1@0 -1@1 1@2 <= 0; -1@0 1@1 -1@2 <= 0; 1@0 -1@1 -1@2 <= 0; 1@2 + 0, 1 fresh",
+        ),
         ("a~", "-1@0 + 1, 0 fresh"),
         ("1", "+ 1, 0 fresh"),
-        ("ab&", "-1@0 1@2 <= 0; -1@1 1@2 <= 0; 1@0 1@1 -1@2 <= 1; 1@2 + 0, 1 fresh"),
-        ("ba|", "1@1 -1@2 <= 0; 1@0 -1@2 <= 0; -1@0 -1@1 1@2 <= 0; 1@2 + 0, 1 fresh"),
-        ("ab>", "-1@0 -1@2 <= -1; 1@1 -1@2 <= 0; 1@0 -1@1 1@2 <= 1; 1@2 + 0, 1 fresh"),
-        ("ab<", "1@0 -1@2 <= 0; -1@1 -1@2 <= -1; -1@0 1@1 1@2 <= 1; 1@2 + 0, 1 fresh"),
-        ("aa&", "-1@0 1@2 <= 0; -1@0 1@2 <= 0; 2@0 -1@2 <= 1; 1@2 + 0, 1 fresh"),
-        ("aa~|", "1@0 -1@2 <= 0; -1@0 -1@2 <= -1; 1@2 <= 1; 1@2 + 0, 1 fresh"),
-        ("a1&", "-1@0 1@2 <= 0; 1@2 <= 1; 1@0 -1@2 <= 0; 1@2 + 0, 1 fresh"),
-        ("01=", "1@2 <= 2; 1@2 <= 0; -1@2 <= 0; -1@2 <= 0; 1@2 + 0, 1 fresh"),
-        ("a~b~=", "-1@0 1@1 1@2 <= 1; 1@0 -1@1 1@2 <= 1; 1@0 1@1 -1@2 <= 1; -1@0 -1@1 -1@2 <= -1; 1@2 + 0, 1 fresh"),
-        ("ab&~b|", "-1@0 1@2 <= 0; -1@1 1@2 <= 0; 1@0 1@1 -1@2 <= 1; -1@2 -1@3 <= -1; 1@1 -1@3 <= 0; -1@1 1@2 1@3 <= 1; 1@3 + 0, 2 fresh"),
+        (
+            "ab&",
+            "-1@0 1@2 <= 0; -1@1 1@2 <= 0; 1@0 1@1 -1@2 <= 1; 1@2 + 0, 1 fresh",
+        ),
+        (
+            "ba|",
+            "1@1 -1@2 <= 0; 1@0 -1@2 <= 0; -1@0 -1@1 1@2 <= 0; 1@2 + 0, 1 fresh",
+        ),
+        (
+            "ab>",
+            "-1@0 -1@2 <= -1; 1@1 -1@2 <= 0; 1@0 -1@1 1@2 <= 1; 1@2 + 0, 1 fresh",
+        ),
+        (
+            "ab<",
+            "1@0 -1@2 <= 0; -1@1 -1@2 <= -1; -1@0 1@1 1@2 <= 1; 1@2 + 0, 1 fresh",
+        ),
+        (
+            "aa&",
+            "-1@0 1@2 <= 0; -1@0 1@2 <= 0; 2@0 -1@2 <= 1; 1@2 + 0, 1 fresh",
+        ),
+        (
+            "aa~|",
+            "1@0 -1@2 <= 0; -1@0 -1@2 <= -1; 1@2 <= 1; 1@2 + 0, 1 fresh",
+        ),
+        (
+            "a1&",
+            "-1@0 1@2 <= 0; 1@2 <= 1; 1@0 -1@2 <= 0; 1@2 + 0, 1 fresh",
+        ),
+        (
+            "01=",
+            "1@2 <= 2; 1@2 <= 0; -1@2 <= 0; -1@2 <= 0; 1@2 + 0, 1 fresh",
+        ),
+        (
+            "a~b~=",
+            "-1@0 1@1 1@2 <= 1; 1@0 -1@1 1@2 <= 1; 1@0 1@1 -1@2 <= 1; -1@0 -1@1 -1@2 <= -1; 1@2 + 0, 1 fresh",
+        ),
+        (
+            "ab&~b|",
+            "-1@0 1@2 <= 0; -1@1 1@2 <= 0; 1@0 1@1 -1@2 <= 1; -1@2 -1@3 <= -1; 1@1 -1@3 <= 0; -1@1 1@2 1@3 <= 1; 1@3 + 0, 2 fresh",
+        ),
     ] {
         let formula = formula_of(alloc, text).expect(&rt, "memory");
         let shown = all_shown(alloc, &formula, &[0, 1]).expect(&rt, "memory");

@@ -2,5 +2,9 @@
 #![tactic(auto)]
 
 mod formula;
+mod place;
+mod program;
 
 pub use formula::{Connective, Formula, NameId};
+pub use place::{Kind, Place};
+pub use program::{Body, Name, Order, ProgItem, Program, Role};

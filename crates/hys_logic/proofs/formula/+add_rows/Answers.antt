@@ -1,4 +1,4 @@
-use Rattle.std.proofs.Common.{◌≡◌, ◌<◌, ◌≤◌, ◌+◌, ◌^◌, ◌∙◌, ap, sym, arith, subst, refl, length, ℕ}
+use Rattle.std.proofs.Common.{◌≡◌, ◌<◌, ◌+◌, ap, sym, arith, subst, refl, length, ℕ}
 use Rattle.hys_prog.specs.Formulas.{FormulaTree, tree_of, nodes, negated, joined, connectives, EachName}
 use Rattle.hys_logic.specs.Literals.{column_in, literal_of, LiteralBelow}
 use Rattle.hys_logic.specs.Rows.{Added, stated_of}

@@ -1,8 +1,7 @@
-use Rattle.std.proofs.Common.{◌≡◌, ◌<◌, ◌≤◌, ◌+◌, ◌-◌, ◌∙◌, ap, sym, arith, subst, refl, length, ℕ}
-use Rattle.hys_prog.specs.Formulas.{FormulaTree, tree_of, connectives, EachName, IsBit}
-use Rattle.hys_logic.specs.Literals.{column_in, literal_of, LiteralBelow}
-use Rattle.hys_logic.specs.Rows.{Added, stated_of, BitsFrom}
-use Rattle.hys_logic.specs.Stated.{AreRows, EachBelow}
+use Rattle.std.proofs.Common.{◌≡◌, ◌<◌, ◌+◌, ◌-◌, ◌∙◌, ap, arith, subst, length}
+use Rattle.hys_prog.specs.Formulas.{tree_of, connectives}
+use Rattle.hys_logic.specs.Literals.{column_in, literal_of, number_of, LiteralBelow}
+use Rattle.hys_logic.specs.Rows.{stated_of, BitsFrom}
 use Rattle.hys_logic.proofs.Truths.{name_more, literal_below, literal_is, made_rows, rows_mean, row_count}
 use Rattle.hys_logic.proofs.formula.rows_of.Goals as goal
 
@@ -28,3 +27,6 @@ returns-clause-below c =
     let l : LiteralBelow (c.args.first_free + connectives (tree_of c.args.formula.now)) (literal_of (column_in c.args.columns.now) c.args.first_free (tree_of c.args.formula.now)) =
     literal_below (tree_of c.args.formula.now) (column_in c.args.columns.now) c.args.first_free (name_more (λ n. (n < length c.args.columns.now) × (column_in c.args.columns.now n < c.args.first_free)) (λ n. column_in c.args.columns.now n < c.args.first_free) (tree_of c.args.formula.now) (λ n q. q.1) c.requires.names) in
     ((made_rows c.of.result c.new-rows.result.items c.add_rows.new.rows.items (stated_of (column_in c.args.columns.now) c.args.first_free (tree_of c.args.formula.now)) (c.args.first_free + connectives (tree_of c.args.formula.now)) c.of.ensures c.new-rows.ensures.items (rw (c.from.ensures) at c.in_ok-made.ensures.added)).1, c.in_ok-literal.ensures.below (c.args.first_free + connectives (tree_of c.args.formula.now)) (rw (c.in_ok-made.ensures.literal, c.from.ensures) l))
+
+pub returns-clause-literal_stated : goal.returns-clause-literal_stated
+returns-clause-literal_stated c = λ v. c.in_ok-literal.ensures.value v ∙ ap (λ l. number_of l v) (c.in_ok-made.ensures.literal ∙ ap (λ k. literal_of (column_in c.args.columns.now) k (tree_of c.args.formula.now)) c.from.ensures)

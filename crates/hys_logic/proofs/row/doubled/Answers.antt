@@ -1,4 +1,4 @@
-use Rattle.std.proofs.Common.{◌∙◌, ap, ◌∷◌, [], refl}
+use Rattle.std.proofs.Common.{refl}
 use Rattle.hys_logic.specs.declared.row.Sign.TheVariants.{Plus, Minus}
 use Rattle.hys_logic.proofs.Terms.{double_sum, gone_sum, gone_sum'}
 use Rattle.hys_logic.proofs.row.doubled.Goals as goal

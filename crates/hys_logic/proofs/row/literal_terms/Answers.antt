@@ -1,4 +1,4 @@
-use Rattle.std.proofs.Common.{◌≡◌, ◌∙◌, ap, ◌∷◌, [], arith, refl}
+use Rattle.std.proofs.Common.{refl}
 use Rattle.hys_logic.proofs.Terms.{no_literals, left_literal, right_literal, both_literals}
 use Rattle.hys_logic.proofs.row.literal_terms.Goals as goal
 

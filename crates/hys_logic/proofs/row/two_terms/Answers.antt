@@ -1,4 +1,4 @@
-use Rattle.std.proofs.Common.{◌≡◌, ◌∙◌, ap, ◌∷◌, [], arith, refl}
+use Rattle.std.proofs.Common.{◌≡◌, arith, refl}
 use Rattle.hys_logic.proofs.Terms.{rising_sum, swapped_sum, same_sum}
 use Rattle.hys_logic.proofs.row.two_terms.Goals as goal
 

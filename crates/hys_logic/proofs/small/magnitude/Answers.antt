@@ -1,4 +1,4 @@
-use Rattle.std.proofs.Common.{◌≡◌, ◌∙◌, ap, ap₂, sym, arith}
+use Rattle.std.proofs.Common.{◌≡◌, ◌∙◌, ap, ap₂, arith}
 use Rattle.hys_number.specs.Ops.{◌+ₙ◌, fits, whole}
 use Rattle.hys_logic.proofs.Smalls.{three_is, three_fits}
 use Rattle.hys_logic.proofs.small.magnitude.Goals as goal

@@ -1,4 +1,4 @@
-use Rattle.std.proofs.Common.{◌≡◌, ℤ, pos, neg_ℤ, ◌∙◌, ap, sym, arith, unsigned_abs, to_z, of_z, to_z-of_z, w8, FitsSigned, ◌≤◌}
+use Rattle.std.proofs.Common.{◌≡◌, ℤ, pos, ◌∙◌, ap, sym, arith, unsigned_abs, to_z, of_z, to_z-of_z, w8, FitsSigned, ◌≤◌}
 use borrow.Author.Differences.{ints}
 use Rattle.hys_number.specs.Ops.{neg, whole}
 use Rattle.hys_logic.specs.Rows.{int}

@@ -1,6 +1,5 @@
 use Rattle.std.proofs.Common.{refl, arith, pos}
 use borrow.Author.Differences.{ints}
-use Rattle.hys_number.specs.Number.{make}
 use Rattle.hys_number.specs.Gcd.{gcd}
 use Rattle.hys_number.specs.Ops.{whole}
 use Rattle.hys_frac.specs.Frac.{IsReduced}

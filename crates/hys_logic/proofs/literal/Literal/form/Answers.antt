@@ -1,6 +1,5 @@
-use Rattle.std.proofs.Common.{◌∙◌, ap, rules}
+use Rattle.std.proofs.Common.{◌∙◌}
 use Rattle.hys_logic.proofs.Terms.{own_value, own_sorted}
-use Rattle.hys_logic.specs.Literals.{constant_part}
 use Rattle.hys_logic.proofs.literal.Literal.form.Goals as goal
 
 pub returns-clause-value : goal.returns-clause-value

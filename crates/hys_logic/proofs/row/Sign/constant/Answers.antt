@@ -1,6 +1,4 @@
 use Rattle.std.proofs.Common.{◌∙◌, sym}
-use Rattle.hys_number.proofs.Ring.{by_ring, k, minus}
-use Rattle.std.proofs.Common.{List, [], refl}
 use Rattle.hys_logic.proofs.Smalls.{int-whole, int-minus}
 use Rattle.hys_logic.proofs.Terms.{signed-none}
 use Rattle.hys_logic.proofs.row.Sign.constant.Goals as goal
