@@ -1,0 +1,88 @@
+"""What the benchmarks share: the proved program, made in a scratch repository, and a process's time."""
+
+import glob
+import os
+import shutil
+import subprocess
+import sys
+import tempfile
+
+BENCH = os.path.dirname(os.path.abspath(__file__))
+TOP = os.path.dirname(BENCH)
+BUILT = os.path.join(TOP, ".build", "bench")
+PARTS = ("src", "specs", "proofs")
+
+
+def tool(name, *folders):
+    """The path of the program on PATH or in the folders, or the end of the benchmark."""
+    found = shutil.which(name, path=os.pathsep.join([os.environ.get("PATH", ""), *folders]))
+    if found is None:
+        sys.exit(" ".join([f"bench: {name} is missing on PATH", *(f"and in {it}" for it in folders)]))
+    return found
+
+
+def is_current(made, sources):
+    return os.path.exists(made) and all(
+        os.path.getmtime(it) < os.path.getmtime(made) for it in sources
+    )
+
+
+def sources_of_crates():
+    """The files that a proof reads."""
+    files = [os.path.join(TOP, "crates.txt")]
+    for part in PARTS:
+        files += glob.glob(f"{TOP}/crates/*/{part}/**/*.*", recursive=True)
+    return files
+
+
+def proved(name, libraries):
+    """The executable of bench/NAME/main.rt.in over these libraries of the repository.
+
+    It is built where it is missing or older than its sources. The repository that it is built in is
+    a copy, since each crate that crates.txt lists is the gate's, and is deleted again."""
+    source, made = f"{BENCH}/{name}/main.rt.in", f"{BUILT}/{name}-proved"
+    if is_current(made, [source, *sources_of_crates()]):
+        return made
+    print(f"bench: proving and building {name} (some minutes, the first time)", file=sys.stderr)
+    rt = tool("rt", "/opt/rattle/bin")
+    crate = f"bench_{name}"
+    with tempfile.TemporaryDirectory() as scratch:
+        for folder in glob.glob(f"{TOP}/crates/*/"):
+            for part in PARTS:
+                if os.path.isdir(folder + part):
+                    to = os.path.join(scratch, os.path.relpath(folder + part, TOP))
+                    shutil.copytree(folder + part, to)
+        shutil.copy(f"{TOP}/crates.txt", scratch)
+        with open(f"{scratch}/crates.txt", "a", encoding="utf-8") as listed:
+            listed.write(f"{crate}: {' '.join(libraries)}\n")
+        os.makedirs(f"{scratch}/crates/{crate}/src")
+        shutil.copy(source, f"{scratch}/crates/{crate}/src/main.rt")
+        ran = subprocess.run(
+            [rt, "run"],
+            cwd=f"{scratch}/crates/{crate}",
+            stdin=subprocess.DEVNULL,
+            stdout=subprocess.PIPE,
+            stderr=subprocess.STDOUT,
+            text=True,
+            errors="replace",
+        )
+        if "rt: running out/" not in ran.stdout:
+            sys.exit(f"{ran.stdout}\nbench: {name} was not built")
+        os.makedirs(BUILT, exist_ok=True)
+        shutil.copy(f"{scratch}/crates/{crate}/out/{crate}", made)
+    return made
+
+
+def best(command, runs=5):
+    """The least processor time of the runs, in seconds, and what the command printed."""
+    times = []
+    for _ in range(runs):
+        process = subprocess.Popen(command, stdout=subprocess.PIPE, text=True)
+        printed = process.stdout.read()
+        process.stdout.close()
+        _, status, usage = os.wait4(process.pid, 0)
+        process.returncode = os.waitstatus_to_exitcode(status)
+        if process.returncode != 0:
+            sys.exit(f"bench: {command[0]} ended with status {process.returncode}")
+        times.append(usage.ru_utime + usage.ru_stime)
+    return min(times), printed.strip()
