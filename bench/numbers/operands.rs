@@ -1,4 +1,5 @@
-//! The operands of all programs, drawn by a linear congruential generator, and the words.
+//! What the two programs share with the proved one: the words, the operands, drawn by a linear
+//! congruential generator, and the checksum.
 
 /// The mix and the number of rounds.
 pub fn words() -> (String, u64) {
@@ -25,4 +26,9 @@ pub fn operands(mix: &str) -> Vec<(i64, i64)> {
         }
     };
     (0..400).map(|_| operand()).collect()
+}
+
+/// The checksum depends on the order of what is mixed in, so that no two results cancel.
+pub fn mixed_in(sum: i64, part: i64) -> i64 {
+    sum.wrapping_mul(31).wrapping_add(part)
 }

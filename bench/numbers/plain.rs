@@ -1,7 +1,8 @@
-//! The proved program's sums in plain Rust: a pair of 64 bits, and 128 bits in between.
+//! The proved program in plain Rust: a pair of 64 bits, and 128 bits in between.
 
 mod operands;
 
+use operands::mixed_in;
 use std::cmp::Ordering;
 
 #[derive(Clone, Copy)]
@@ -66,19 +67,19 @@ impl Frac {
     }
 }
 
-fn parts(number: Option<Frac>) -> i64 {
+fn with_number(sum: i64, number: Option<Frac>) -> i64 {
     match number {
-        Some(number) => number.num.wrapping_add(number.den),
-        None => 0,
+        Some(number) => mixed_in(mixed_in(sum, number.num), number.den),
+        None => mixed_in(sum, 0),
     }
 }
 
-fn results(left: Frac, right: Frac) -> i64 {
-    parts(left.add(right))
-        .wrapping_add(parts(left.sub(right)))
-        .wrapping_add(parts(left.mul(right)))
-        .wrapping_add(parts(left.div(right)))
-        .wrapping_add(left.cmp(right) as i64)
+fn with_results(before: i64, left: Frac, right: Frac) -> i64 {
+    let mut sum = mixed_in(before, left.cmp(right) as i64);
+    sum = with_number(sum, left.add(right));
+    sum = with_number(sum, left.sub(right));
+    sum = with_number(sum, left.mul(right));
+    with_number(sum, left.div(right))
 }
 
 fn main() {
@@ -91,7 +92,7 @@ fn main() {
     for _ in 0..rounds {
         for left in &operands {
             for right in &operands {
-                sum = sum.wrapping_add(results(*left, *right));
+                sum = with_results(sum, *left, *right);
             }
         }
     }

@@ -1,25 +1,28 @@
-//! The proved program's sums by num-rational.
+//! The proved program by num-rational.
 
 mod operands;
 
 use num_rational::Ratio;
+use operands::mixed_in;
 
 type Number = Ratio<i128>;
 
-fn parts(number: Number) -> i64 {
-    (*number.numer() as i64).wrapping_add(*number.denom() as i64)
+fn with_number(sum: i64, number: Number) -> i64 {
+    mixed_in(
+        mixed_in(sum, *number.numer() as i64),
+        *number.denom() as i64,
+    )
 }
 
-fn results(left: Number, right: Number) -> i64 {
-    let quotient = match *right.numer() {
-        0 => 0,
-        _ => parts(left / right),
-    };
-    parts(left + right)
-        .wrapping_add(parts(left - right))
-        .wrapping_add(parts(left * right))
-        .wrapping_add(quotient)
-        .wrapping_add(left.cmp(&right) as i64)
+fn with_results(before: i64, left: Number, right: Number) -> i64 {
+    let mut sum = mixed_in(before, left.cmp(&right) as i64);
+    sum = with_number(sum, left + right);
+    sum = with_number(sum, left - right);
+    sum = with_number(sum, left * right);
+    match *right.numer() {
+        0 => mixed_in(sum, 0),
+        _ => with_number(sum, left / right),
+    }
 }
 
 fn main() {
@@ -32,7 +35,7 @@ fn main() {
     for _ in 0..rounds {
         for left in &operands {
             for right in &operands {
-                sum = sum.wrapping_add(results(*left, *right));
+                sum = with_results(sum, *left, *right);
             }
         }
     }
