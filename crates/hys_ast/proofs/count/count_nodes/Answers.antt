@@ -1,6 +1,4 @@
-use Rattle.std.proofs.Common.{◌≡◌, List, [], ◌++◌, map, refl, sym, subst}
-use Rattle.hys_ast.specs.Seen.{decl_of, item_of}
-use Rattle.hys_ast.specs.Nodes.{decls_expressions, items_expressions, IsCountOf}
+use Rattle.std.proofs.Common.{[], refl}
 use Rattle.hys_ast.proofs.Counting.{nothing, of_both}
 use Rattle.hys_ast.proofs.count.count_nodes.Goals as goal
 
