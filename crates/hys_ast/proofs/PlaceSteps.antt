@@ -1,5 +1,5 @@
 -- One byte more before a place.
-use Rattle.std.proofs.Common.{◌≡◌, ℕ, zero, suc, ◌+◌, ◌<◌, ◌≤◌, Bool, true, false, eqb, cond, List, [], ◌∷◌, ◌++◌, length, take, get_or, refl, sym, ap, ◌∙◌, arith, length-append, length-take}
+use Rattle.std.proofs.Common.{◌≡◌, ℕ, suc, ◌+◌, ◌≤◌, Bool, true, false, eqb, cond, List, [], ◌∷◌, ◌++◌, length, take, refl, ap, ◌∙◌, arith, length-append, length-take}
 use Rattle.std.proofs.lemmas.Bool.{eqb-true}
 use Rattle.hys_ast.specs.declared.place.Place.{Place}
 use Rattle.hys_ast.specs.Places.{line_feeds, since_line_feed, place_at}

@@ -3,3 +3,4 @@ pub mod Places
 pub mod Tree
 pub mod Seen
 pub mod Grammar
+pub mod Nodes

@@ -1,5 +1,5 @@
 -- The trees that the types of the code stand for.
-use Rattle.std.specs.Prelude.{List, map, Option, Some, None, option_map}
+use Rattle.std.specs.Prelude.{map, Option, Some, None}
 use Rattle.hys_ast.specs.Tree as tree
 use Rattle.hys_ast.specs.declared.tree.Expr.{Expr}
 use Rattle.hys_ast.specs.declared.tree.Expr.TheVariants.{Number, Name, Truth, Cast, Unary', Binary'}

@@ -1,12 +1,14 @@
 //! Trees of a source, the places of its tokens, and the grammar that ties the two.
 #![tactic(auto)]
 
+mod count;
 mod level;
 mod lexeme;
 mod place;
 mod source;
 mod tree;
 
+pub use count::{NodeCount, count_nodes};
 pub use level::Level;
 pub use lexeme::{Lexeme, lexemes};
 pub use place::{Place, place_of};

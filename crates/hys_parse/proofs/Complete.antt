@@ -1,5 +1,5 @@
 -- What is derived is read.
-use Rattle.std.proofs.Common.{◌≡◌, ◌≢◌, ℕ, zero, suc, ◌<◌, ◌≤◌, Bool, true, false, eqb, cond, List, [], ◌∷◌, length, Option, Some, None, Result, Ok, Err, ◌⊎◌, inl, inr, refl, sym, ap, subst, ◌∙◌, arith}
+use Rattle.std.proofs.Common.{◌≡◌, ℕ, zero, suc, ◌<◌, ◌≤◌, Bool, true, false, eqb, cond, List, [], ◌∷◌, length, Option, Some, None, Ok, inl, inr, refl, sym, ap, ◌∙◌, arith}
 use Rattle.std.proofs.lemmas.Bool.{eqb-true}
 use Rattle.hys_lex.specs.declared.token.TokenKind.{TokenKind}
 use Rattle.hys_lex.specs.declared.token.TokenKind.TheVariants as token
@@ -16,9 +16,9 @@ use Rattle.hys_ast.specs.Operators.{binary_of, level_of, groups, is_not, sign_of
 use Rattle.hys_ast.specs.Grammar.{Symbol, At, Behind, Negation, Signed, Atom, operand, truth_of, Is, Derives, chain, alone, pair, ended, joined, negated, compared, signed, unsigned, literal, name, truth, cast, group}
 use Rattle.hys_ast.specs.Tree.{Tree}
 use Rattle.hys_ast.specs.Tree as tree
-use Rattle.hys_parse.specs.Reading.{Read, ◌>>=◌, choose, same_kind, same_level, expect, after, joint, not_at, sign_at, cast_at, whole_at, group_at, atom_of, atom_at, signed_at, tail_at, binary_at, compare_at, negation_at, operand_at, reader, nested}
+use Rattle.hys_parse.specs.Reading.{choose, same_kind, same_level, after, joint, not_at, sign_at, cast_at, whole_at, group_at, atom_at, signed_at, tail_at, binary_at, compare_at, negation_at, operand_at, reader, nested}
 use Rattle.hys_parse.specs.Sections.{expr_at}
-use Rattle.hys_parse.proofs.Steps.{cond_is, same_kind_refl, expect_is, after_is, after_not}
+use Rattle.hys_parse.proofs.Steps.{cond_is, expect_is, after_is, after_not}
 use Rattle.hys_parse.proofs.Chains.{stays, single, step}
 
 pub shrinks : (s : Symbol) (ts rest : List Lexeme) (e : Tree) → Derives s ts rest e → length rest ≤ length ts

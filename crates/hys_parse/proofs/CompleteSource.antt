@@ -1,5 +1,5 @@
 -- What is derived is read: sections and sources.
-use Rattle.std.proofs.Common.{◌≡◌, ℕ, zero, suc, ◌<◌, ◌≤◌, Bool, true, false, eqb, cond, List, [], ◌∷◌, ◌++◌, length, Option, Some, None, Result, Ok, Err, ◌⊎◌, inl, inr, refl, sym, ap, subst, ◌∙◌, arith, append_assoc}
+use Rattle.std.proofs.Common.{◌≡◌, ℕ, suc, ◌<◌, ◌≤◌, Bool, true, false, eqb, cond, List, [], ◌∷◌, ◌++◌, length, Option, Some, None, Ok, refl, sym, ap, ◌∙◌, arith, append_assoc}
 use Rattle.std.proofs.lemmas.List.{append-nil}
 use Rattle.std.proofs.lemmas.Bool.{eqb-true}
 use Rattle.hys_lex.specs.declared.token.TokenKind.{TokenKind}
@@ -13,9 +13,8 @@ use Rattle.hys_ast.specs.Grammar.{Is, DerivesDecls, DerivesItems, among, interfa
 use Rattle.hys_ast.specs.Tree.{Decl, Item, Source}
 use Rattle.hys_parse.specs.declared.draft.Part.{Part}
 use Rattle.hys_parse.specs.declared.draft.Part.TheVariants as part
-use Rattle.hys_parse.specs.Reading.{Read, ◌>>=◌, choose, expect, after}
 use Rattle.hys_parse.specs.Sections.{turns, all_turns, line_turn, item_turn, Draft, declares, decls_at, items_at, block_at, implementation_section, section_in, section_at, section_turn, part_at, source_at}
-use Rattle.hys_parse.proofs.Steps.{cond_is, expect_is}
+use Rattle.hys_parse.proofs.Steps.{expect_is}
 use Rattle.hys_parse.proofs.Turns.{first_turn, last_turn}
 use Rattle.hys_parse.proofs.CompleteParts.{decls_complete, decls_shrink, items_complete, items_shrink, kind_at_not}
 

@@ -1,5 +1,5 @@
 -- What the readers of expressions read is derived.
-use Rattle.std.proofs.Common.{◌≡◌, ℕ, zero, suc, Bool, true, false, eqb, List, [], ◌∷◌, length, Option, Some, None, Result, Ok, Err, ◌⊎◌, inl, inr, refl, sym, ap, subst, ◌∙◌, arith}
+use Rattle.std.proofs.Common.{◌≡◌, ℕ, zero, suc, Bool, true, false, eqb, List, [], ◌∷◌, length, Some, None, Ok, inl, inr, refl, ap, subst, ◌∙◌}
 use Rattle.std.proofs.lemmas.Bool.{eqb-true}
 use Rattle.hys_lex.specs.declared.token.TokenKind.{TokenKind}
 use Rattle.hys_lex.specs.declared.token.TokenKind.TheVariants as token
@@ -16,7 +16,7 @@ use Rattle.hys_ast.specs.Operators.{binary_of, level_of, groups, is_not, sign_of
 use Rattle.hys_ast.specs.Grammar.{Symbol, At, Behind, Negation, Signed, Atom, operand, truth_of, Is, Derives, chain, alone, pair, ended, joined, negated, compared, signed, unsigned, literal, name, truth, cast, group}
 use Rattle.hys_ast.specs.Tree.{Tree}
 use Rattle.hys_ast.specs.Tree as tree
-use Rattle.hys_parse.specs.Reading.{Read, ◌>>=◌, choose, same_level, expect, after, joint, not_at, sign_at, cast_at, whole_at, group_at, atom_of, atom_at, signed_at, tail_at, binary_at, compare_at, negation_at, operand_at, reader, nested}
+use Rattle.hys_parse.specs.Reading.{Read, same_level, after, joint, not_at, sign_at, cast_at, whole_at, group_at, atom_of, atom_at, signed_at, tail_at, binary_at, compare_at, negation_at, operand_at, reader, nested}
 use Rattle.hys_parse.specs.Sections.{expr_at}
 use Rattle.hys_parse.proofs.Steps.{bind_ok, ok_is, choose_is, cond_is, if_true, if_false, expect_then, after_then}
 

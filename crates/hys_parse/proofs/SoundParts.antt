@@ -1,8 +1,6 @@
 -- What is read is derived: declarations, items, sections and sources.
-use Rattle.std.proofs.Common.{◌≡◌, ℕ, zero, suc, Bool, true, false, eqb, cond, List, [], ◌∷◌, ◌++◌, length, Option, Some, None, Result, Ok, Err, ◌⊎◌, inl, inr, refl, sym, ap, subst, ◌∙◌, arith, append_assoc}
+use Rattle.std.proofs.Common.{◌≡◌, ℕ, zero, suc, Bool, true, false, cond, List, [], ◌∷◌, ◌++◌, length, Some, None, Ok, ◌⊎◌, inl, inr, refl, sym, ap, subst, ◌∙◌, append_assoc}
 use Rattle.std.proofs.lemmas.List.{append-nil}
-use Rattle.std.proofs.lemmas.Bool.{eqb-true}
-use Rattle.hys_lex.specs.declared.token.TokenKind.{TokenKind}
 use Rattle.hys_lex.specs.declared.token.TokenKind.TheVariants as token
 use Rattle.hys_lex.specs.declared.sign.TheConstants as sign
 use Rattle.hys_lex.specs.declared.keyword.TheConstants as keyword
@@ -10,16 +8,13 @@ use Rattle.hys_ast.specs.declared.lexeme.Lexeme.{Lexeme}
 use Rattle.hys_ast.specs.declared.source.Section.{Section}
 use Rattle.hys_ast.specs.declared.source.Section.TheVariants as section
 use Rattle.hys_ast.specs.declared.source.Kind.{Kind}
-use Rattle.hys_ast.specs.Grammar.{Is, DerivesExpr, has_bounds, kind_of, DerivesDecl, plain, bounded, valued, DerivesNames, last, further, DerivesDecls, no_decls, line, DerivesIte, short, long, DerivesChoice, bare, braced, has_formulas, DerivesItem, formula, choice, must, DerivesItems, no_items, item, among, interface_section, item_section, item_word, DerivesInterface, no_block, block, DerivesImplementation, no_sections, aux, items, DerivesSource, source}
+use Rattle.hys_ast.specs.Grammar.{Is, DerivesExpr, has_bounds, kind_of, DerivesDecl, plain, bounded, valued, DerivesNames, last, further, DerivesDecls, no_decls, line, DerivesIte, short, long, DerivesChoice, bare, braced, has_formulas, DerivesItem, formula, choice, must, DerivesItems, no_items, item}
 use Rattle.hys_ast.specs.Tree.{Tree, Decl, Shape, Item, Source}
 use Rattle.hys_ast.specs.Tree as tree
-use Rattle.hys_parse.specs.declared.draft.Part.{Part}
-use Rattle.hys_parse.specs.declared.draft.Part.TheVariants as part
-use Rattle.hys_parse.specs.Reading.{Read, ◌>>=◌, choose, expect, after}
-use Rattle.hys_parse.specs.Sections.{expr_at, Turn, turns, all_turns, decl_with, has_value, bounded_at, valued_at, plain_at, decl_at, name_turn, kind_at, line_at, line_turn, ite_at, braced_at, choice_at, formula_at, shape_at, named_at, must_at, item_at, item_turn, Draft, declares, decls_at, items_at, block_at, implementation_section, section_in, section_at, section_turn, part_at, source_at}
+use Rattle.hys_parse.specs.Reading.{choose, after}
+use Rattle.hys_parse.specs.Sections.{expr_at, turns, all_turns, decl_with, has_value, bounded_at, valued_at, plain_at, decl_at, name_turn, kind_at, line_at, line_turn, ite_at, braced_at, choice_at, formula_at, shape_at, named_at, must_at, item_at, item_turn, declares}
 use Rattle.hys_parse.proofs.Steps.{bind_ok, ok_is, choose_is, cond_is, if_true, if_false, expect_then, after_then}
 use Rattle.hys_parse.proofs.Sound.{expr_sound}
-use Rattle.hys_parse.proofs.CompleteSource.{item_declares_not}
 
 -- Each production, at lists and trees that are only known to be equal to those that it names.
 

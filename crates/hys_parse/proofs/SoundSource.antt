@@ -1,5 +1,5 @@
 -- What is read is derived: sections and sources.
-use Rattle.std.proofs.Common.{◌≡◌, ℕ, zero, suc, Bool, true, false, eqb, cond, List, [], ◌∷◌, ◌++◌, length, Option, Some, None, Result, Ok, Err, ◌⊎◌, inl, inr, refl, sym, ap, subst, ◌∙◌, arith, append_assoc}
+use Rattle.std.proofs.Common.{◌≡◌, ℕ, zero, suc, Bool, true, false, eqb, List, [], ◌∷◌, ◌++◌, length, Some, Ok, ◌⊎◌, inl, inr, refl, sym, ap, subst, ◌∙◌}
 use Rattle.std.proofs.lemmas.List.{append-nil}
 use Rattle.std.proofs.lemmas.Bool.{eqb-true}
 use Rattle.hys_lex.specs.declared.token.TokenKind.{TokenKind}
@@ -9,11 +9,10 @@ use Rattle.hys_lex.specs.declared.keyword.TheConstants as keyword
 use Rattle.hys_ast.specs.declared.lexeme.Lexeme.{Lexeme}
 use Rattle.hys_ast.specs.declared.source.Section.{Section}
 use Rattle.hys_ast.specs.declared.source.Section.TheVariants as section
-use Rattle.hys_ast.specs.Grammar.{Is, DerivesDecls, DerivesItems, among, interface_section, item_section, item_word, DerivesInterface, no_block, block, DerivesImplementation, no_sections, aux, items, DerivesSource, source}
+use Rattle.hys_ast.specs.Grammar.{Is, DerivesDecls, DerivesItems, among, interface_section, item_section, DerivesInterface, no_block, block, DerivesImplementation, no_sections, aux, items, DerivesSource, source}
 use Rattle.hys_ast.specs.Tree.{Decl, Item, Source}
 use Rattle.hys_parse.specs.declared.draft.Part.{Part}
 use Rattle.hys_parse.specs.declared.draft.Part.TheVariants as part
-use Rattle.hys_parse.specs.Reading.{Read, ◌>>=◌, choose, expect, after}
 use Rattle.hys_parse.specs.Sections.{turns, all_turns, line_turn, item_turn, Draft, declares, decls_at, items_at, block_at, implementation_section, section_in, section_at, section_turn, part_at, source_at}
 use Rattle.hys_parse.proofs.Steps.{bind_ok, ok_is, choose_is, cond_is, if_true, if_false, expect_then}
 use Rattle.hys_parse.proofs.SoundParts.{decls_sound, items_sound, put_before}

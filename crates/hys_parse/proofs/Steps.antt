@@ -1,12 +1,12 @@
 -- One step of reading, in both directions.
-use Rattle.std.proofs.Common.{◌≡◌, ℕ, suc, Bool, true, false, eqb, List, [], ◌∷◌, length, Option, Some, None, Result, Ok, Err, ◌⊎◌, inl, inr, refl, sym, ap, ◌∙◌, arith, cond}
+use Rattle.std.proofs.Common.{◌≡◌, ℕ, suc, Bool, true, false, List, [], ◌∷◌, length, Option, Some, None, Result, Ok, Err, ◌⊎◌, inl, inr, refl, ap, cond}
 use Rattle.std.proofs.lemmas.Bool.{eqb-true}
 use Rattle.std.proofs.Common.{eq-eqb}
 use Rattle.hys_lex.specs.declared.token.TokenKind.{TokenKind}
 use Rattle.hys_lex.specs.declared.token.TokenKind.TheVariants as token
 use Rattle.hys_ast.specs.declared.lexeme.Lexeme.{Lexeme}
 use Rattle.hys_ast.specs.Grammar.{Is}
-use Rattle.hys_parse.specs.Reading.{Read, ◌>>=◌, choose, same_kind, expect, after}
+use Rattle.hys_parse.specs.Reading.{◌>>=◌, choose, same_kind, expect, after}
 
 pub bind_ok : {A B : Type 0} (r : Result A ℕ) (f : A → Result B ℕ) (y : B) → (r >>= f) ≡ Ok y → (x : A) × (r ≡ Ok x) × (f x ≡ Ok y)
 bind_ok (Ok x) f y e = (x, refl, e)

@@ -1,5 +1,5 @@
 -- Turns taken by a loop.
-use Rattle.std.proofs.Common.{◌≡◌, ℕ, zero, suc, ◌<◌, ◌≤◌, Bool, true, false, List, length, Ok, Err, refl, sym, ◌∙◌, arith}
+use Rattle.std.proofs.Common.{◌≡◌, ℕ, zero, suc, ◌<◌, Bool, true, false, List, length, Ok, refl, ◌∙◌, arith}
 use Rattle.hys_ast.specs.declared.lexeme.Lexeme.{Lexeme}
 use Rattle.hys_parse.specs.declared.stop.Stop.{Stop}
 use Rattle.hys_parse.specs.declared.stop.Stop.TheVariants as stop

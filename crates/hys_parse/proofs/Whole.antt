@@ -1,5 +1,5 @@
 -- A source with nothing behind it.
-use Rattle.std.proofs.Common.{◌≡◌, ℕ, zero, suc, ◌+◌, ◌<◌, ◌≤◌, Bool, true, false, eqb, cond, List, [], ◌∷◌, length, get_or, Result, Ok, Err, ◌⊎◌, inl, inr, refl, sym, ap, subst, ◌∙◌, arith}
+use Rattle.std.proofs.Common.{◌≡◌, ℕ, zero, suc, ◌<◌, ◌≤◌, eqb, List, [], ◌∷◌, length, get_or, Ok, Err, inl, inr, refl, sym, subst, ◌∙◌, arith}
 use Rattle.std.specs.Prelude.{All, AllPairs}
 use Rattle.std.proofs.lemmas.Bool.{eqb-true}
 use Rattle.hys_lex.specs.Cut.{IsTokenOf, Precedes}
@@ -8,7 +8,6 @@ use Rattle.hys_lex.specs.declared.token.TokenKind.TheVariants.{Name}
 use Rattle.hys_ast.specs.declared.lexeme.Lexeme.{Lexeme}
 use Rattle.hys_ast.specs.Grammar.{DerivesSource}
 use Rattle.hys_ast.specs.Tree.{Source}
-use Rattle.hys_parse.specs.Reading.{Read, ◌>>=◌}
 use Rattle.hys_parse.specs.Sections.{source_at, whole_at}
 use Rattle.hys_parse.proofs.Steps.{bind_ok, ok_is, cond_is}
 use Rattle.hys_parse.proofs.SoundSource.{source_sound}

@@ -1,6 +1,6 @@
 -- Reading from left to right with one lexeme looked at ahead. A reader answers what it read and
 -- the lexemes behind it, or how many lexemes were left where it could not go on.
-use Rattle.std.specs.Prelude.{◌≡◌, ℕ, zero, suc, Bool, true, false, ◌==◌, List, [], ◌∷◌, ◌++◌, length, Option, Some, None, Result, Ok, Err, if◌then◌else◌}
+use Rattle.std.specs.Prelude.{◌≡◌, ℕ, zero, suc, Bool, true, false, ◌==◌, List, [], ◌∷◌, length, Option, Some, None, Result, Ok, Err, if◌then◌else◌}
 use Rattle.hys_lex.specs.declared.token.TokenKind.{TokenKind}
 use Rattle.hys_lex.specs.declared.token.TokenKind.TheVariants as token
 use Rattle.hys_lex.specs.declared.sign.TheConstants as sign

@@ -1,6 +1,5 @@
-use Rattle.std.proofs.Common.{◌≡◌, ◌+◌, ◌<◌, length, get_or, eq-eqb, arith}
+use Rattle.std.proofs.Common.{◌≡◌, eq-eqb, arith}
 use Rattle.std.proofs.lemmas.List.{take_more}
-use Rattle.hys_ast.specs.Places.{place_at}
 use Rattle.hys_ast.proofs.PlaceSteps.{breaks, goes_on, starts, ends, differs}
 use Rattle.hys_ast.proofs.place.advance.Goals as goal
 use Rattle.hys_ast.proofs.place.advance.Goals.{then-text-at-eq10, else-text-at-eq10}

@@ -1,4 +1,3 @@
-use Rattle.std.proofs.Common.{◌≤◌, length}
 use Rattle.hys_ast.proofs.PlaceSteps.{Reached}
 use Rattle.hys_ast.proofs.place.advance.Given as goal
 

@@ -1,4 +1,4 @@
-use Rattle.std.proofs.Common.{◌≡◌, ap, sym, ◌∙◌, arith}
+use Rattle.std.proofs.Common.{ap, sym, ◌∙◌, arith}
 use Rattle.hys_ast.specs.Places.{place_at}
 use Rattle.hys_ast.proofs.place.place_of.Goals as goal
 

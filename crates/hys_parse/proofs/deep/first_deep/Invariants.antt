@@ -1,4 +1,4 @@
-use Rattle.std.proofs.Common.{◌≡◌, ℕ, ◌+◌, ◌<◌, ◌≤◌}
+use Rattle.std.proofs.Common.{◌≡◌, ℕ, ◌<◌, ◌≤◌}
 use Rattle.hys_parse.specs.Depth.{open_before, run_before, depth}
 use Rattle.hys_parse.proofs.deep.first_deep.Given as goal
 

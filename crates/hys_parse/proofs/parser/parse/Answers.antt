@@ -1,4 +1,4 @@
-use Rattle.std.proofs.Common.{◌≡◌, ◌≤◌, Ok, Err, length, sym, ap, ◌∙◌, arith}
+use Rattle.std.proofs.Common.{◌≡◌, Err, sym, ap, ◌∙◌, arith}
 use Rattle.hys_ast.specs.Places.{lexemes_of}
 use Rattle.hys_ast.specs.Seen.{source_of}
 use Rattle.hys_parse.specs.Sections.{whole_at}

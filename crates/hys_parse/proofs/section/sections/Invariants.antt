@@ -1,4 +1,4 @@
-use Rattle.std.proofs.Common.{◌≤◌, length, map}
+use Rattle.std.proofs.Common.{◌≤◌, length}
 use Rattle.hys_parse.specs.Sections.{section_turn, draft_of}
 use Rattle.hys_parse.proofs.Turns.{Upto}
 use Rattle.hys_parse.proofs.section.sections.Given as goal
