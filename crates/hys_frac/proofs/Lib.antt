@@ -1,1 +1,5 @@
+pub mod Comparisons
 pub mod Fracs
+pub mod Numerals
+pub mod Powers
+pub mod Readings

@@ -1,7 +1,7 @@
 use Rattle.std.specs.Prelude.{◌≡◌, ℕ, ◌^◌, ◌<◌, ℤ, pos, unsigned_abs, ◌<ℤ◌}
 use Rattle.std.specs.Coded.{Coded, code_by, coded×, coded_ℕ, coded_ℤ}
-use Rattle.std.proofs.Common.{sym, ◌∙◌, ap, arith, refl}
-use borrow.Author.Differences.{ints, up, down}
+use Rattle.std.proofs.Common.{◌∙◌, ap, arith}
+use borrow.Author.Differences.{ints}
 use Rattle.hys_number.specs.Gcd.{gcd}
 use Rattle.hys_number.specs.Number.{Number, make, make-parts, make_reduced}
 

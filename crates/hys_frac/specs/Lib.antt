@@ -1,1 +1,4 @@
+pub mod Compare
 pub mod Frac
+pub mod Read
+pub mod Written

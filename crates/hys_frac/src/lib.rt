@@ -1,11 +1,17 @@
 //! Exact fractions whose two parts fit 64 bits, and the small types that contracts see as lists.
 #![tactic(auto)]
 
+mod digits;
 mod frac;
+pub mod laws;
 mod list;
+mod numeral;
+mod read;
 mod reduce;
+mod shift;
 mod text;
 
 pub use frac::Frac;
 pub use list::List;
+pub use read::FracFault;
 pub use text::Text;

@@ -11,8 +11,25 @@ pub fn product(a: i64, b: i64) -> i128
     a as i128 * b as i128
 }
 
-// The greatest common divisor.
+// The greatest common divisor. Once the divisor is short, all that follows is.
 pub fn gcd(a: u128, b: u128) -> u128
+    ensures { result ≡ gcd_of a b }
+{
+    let mut x = a;
+    let mut y = b;
+    while y > u64::MAX as u128 {
+        let rest = x % y;
+        x = y;
+        y = rest;
+    }
+    if y == 0 {
+        return x;
+    }
+    gcd_short(y as u64, (x % y) as u64) as u128
+}
+
+// The greatest common divisor of two short numbers.
+pub fn gcd_short(a: u64, b: u64) -> u64
     ensures { result ≡ gcd_of a b }
 {
     let mut x = a;

@@ -3,8 +3,14 @@
 
 mod form;
 mod lost;
+mod multiple;
 mod problem;
+mod range;
+mod sum;
 
 pub use form::{Affine, Interval, Point, Row, Term};
 pub use lost::{LinFault, Lost, Op};
+pub use multiple::{add_scaled, scale};
 pub use problem::Problem;
+pub use range::range_of;
+pub use sum::{dot, row_holds, value};

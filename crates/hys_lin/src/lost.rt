@@ -1,5 +1,6 @@
 ghost use Rattle.std.specs.Prelude.{◌≡◌};
 ghost use Rattle.hys_lin.specs.declared.lost.LinFault.TheVariants.{Memory};
+ghost use Rattle.hys_lin.specs.declared.lost.LinFault.TheVariants.{Lost as Shown};
 
 use hys_frac::Frac;
 use std::alloc::{AllocError, AllocFailed};
@@ -26,6 +27,14 @@ pub struct Lost {
 pub enum LinFault {
     Lost(Lost),
     Memory,
+}
+
+impl From<Lost> for LinFault {
+    ghost from_gives = { λ l e. e ≡ Shown l };
+
+    fn from(lost: Lost) -> LinFault {
+        LinFault::Lost(lost)
+    }
 }
 
 impl From<AllocError> for LinFault {

@@ -1,4 +1,4 @@
-use Rattle.std.proofs.Common.{◌≡◌, ℤ, pos, ◌-ℤ◌, unsigned_abs, neg_ℤ, arith, ap, ap₂, ◌∙◌, rules, FitsSigned, to_z, of_z, w64}
+use Rattle.std.proofs.Common.{◌≡◌, ℤ, pos, ◌-ℤ◌, unsigned_abs, neg_ℤ, arith, rules, FitsSigned, to_z, of_z, w64}
 use Rattle.std.proofs.lemmas.Int.{ints}
 use Rattle.hys_number.specs.Number.{Number, make}
 use Rattle.hys_frac.specs.Frac.{IsReduced}

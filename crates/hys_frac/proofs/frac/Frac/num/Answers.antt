@@ -1,4 +1,4 @@
-use Rattle.std.proofs.Common.{rules, arith, FitsSigned, w64, sym, ◌∙◌, to_z-of_z}
+use Rattle.std.proofs.Common.{rules, FitsSigned, w64, sym, ◌∙◌, to_z-of_z}
 use Rattle.hys_frac.proofs.Fracs.{parts_is}
 use Rattle.hys_frac.proofs.frac.Frac.num.Goals as goal
 

@@ -1,0 +1,45 @@
+use Rattle.std.proofs.Common.{rules, ◌≡◌, ◌+◌, ◌-◌, ◌*◌, ◌^◌, ◌<◌, ◌≤◌, ◌&&◌, ◌||◌, ℕ, List, [], ◌∷◌, ◌++◌, Bool, true, false, cond, pos, to_z, unsigned_abs, length, take, drop, arith, tests, refl, ◌∙◌, sym, ap, ap₂, subst, nat_eq, nat_lt, Ok, Err, Some, None, Result, IfSome, IsSome, IsTrue, ◌↔◌}
+use Rattle.std.proofs.Math.Nat.{sub-zero}
+use borrow.Author.Tests.{eq-eqb, ne_eqb}
+use Rattle.std.specs.Str.Parse.{AllDigits, digits_value, digits_value_after}
+use Rattle.std.specs.Float.Numeral.{Parts, scan_numeral, digits_len, has_digits, numeral_digits, tens_up, tens_down}
+use Rattle.hys_number.specs.Number.{Number, make}
+use Rattle.hys_number.specs.Ops.{neg, fits}
+use Rattle.hys_frac.specs.Read.{judged, literal_value, literal_reading, ratio_reading, unsigned_reading, turned, without_sign, reading}
+use Rattle.hys_frac.specs.declared.read.FracFault.{FracFault}
+use Rattle.hys_frac.specs.declared.read.FracFault.TheVariants.{Form, Long, Range}
+use Rattle.hys_frac.proofs.Fracs.{none_fits, value_along, fits_along}
+use Rattle.hys_frac.proofs.Numerals.{digits_at_front, digits_append, power_grows}
+use Rattle.hys_frac.proofs.Powers.{wide_is}
+use Rattle.hys_frac.proofs.Readings.{lt_true, lt_false, eq_true, eq_false, all_true, one_false, both_true, either_false, or_true, or_false, not_true, as_form, as_long, as_ok, as_range, all_digits, short_room, short_digits, both_room, both_digits, both_small}
+use Rattle.std.proofs.Common.{◌⊎◌, inl, inr}
+use Rattle.std.proofs.lemmas.List.{take_all}
+use Rattle.std.proofs.Common.{length-drop}
+use Rattle.hys_frac.proofs.read.read_literal.Goals as goal
+use Rattle.hys_frac.proofs.read.read_literal.Goals.{then-not-has_digits-via-then-not-has_digits, then-not-has_digits-via-else-not-has_digits+then-len-text}
+
+-- the scanned parts are those of the text
+moved : (P : Parts → Type 0) (p : Parts) (text : List ℕ) → p ≡ scan_numeral text → P p → P (scan_numeral text)
+moved P p text e h = subst P e h
+
+pub returns-then-not-has_digits : goal.returns-then-not-has_digits
+unfolding literal_reading
+returns-then-not-has_digits c = elim c.then-not-has_digits.branch [
+  | then-not-has_digits-via-then-not-has_digits w ↦ as_form _ _ (either_false _ _ (inl (moved (λ (p : Parts). has_digits p ≡ false) _ _ c.scan-numeral.ensures.parts (sym c.has_digits.ensures ∙ not_true _ (λ e. absurd (cc))))))
+  | then-not-has_digits-via-else-not-has_digits+then-len-text w ↦ as_form _ _ (either_false _ _ (inr (moved (λ (p : Parts). nat_eq p.len (length c.args.text.now) ≡ false) _ _ c.scan-numeral.ensures.parts (eq_false _ _ (λ e. w.if-len-text.true (w.len.ensures ∙ e))))))
+]
+
+pub returns-then-text-gt32 : goal.returns-then-text-gt32
+unfolding literal_reading
+returns-then-text-gt32 c = moved (λ (p : Parts). Err Long ≡ cond (has_digits p && nat_eq p.len (length c.args.text.now)) (judged (nat_lt 32 (length c.args.text.now)) (literal_value p)) (Err Form)) _ _ c.scan-numeral.ensures.parts
+    (as_long _ _ _ (both_true _ _ (sym c.has_digits.ensures ∙ c.if-not-has_digits.false) (eq_true _ _ (sym c.len.ensures ∙ c.if-len-text.false))) (lt_true _ _ c.if-text-gt32.true))
+
+pub returns-in-Some : goal.returns-in-Some
+unfolding literal_reading
+returns-in-Some c = moved (λ (p : Parts). Ok c.in-Some.number ≡ cond (has_digits p && nat_eq p.len (length c.args.text.now)) (judged (nat_lt 32 (length c.args.text.now)) (literal_value p)) (Err Form)) _ _ c.scan-numeral.ensures.parts
+    (as_ok _ _ _ _ (both_true _ _ (sym c.has_digits.ensures ∙ c.if-not-has_digits.false) (eq_true _ _ (sym c.len.ensures ∙ c.if-len-text.false))) (lt_false _ _ c.if-text-gt32.false) c.in-Some.ensures.value (c.in-Some.ensures.fits.0 refl))
+
+pub returns-in-None : goal.returns-in-None
+unfolding literal_reading
+returns-in-None c = moved (λ (p : Parts). Err Range ≡ cond (has_digits p && nat_eq p.len (length c.args.text.now)) (judged (nat_lt 32 (length c.args.text.now)) (literal_value p)) (Err Form)) _ _ c.scan-numeral.ensures.parts
+    (as_range _ _ _ (both_true _ _ (sym c.has_digits.ensures ∙ c.if-not-has_digits.false) (eq_true _ _ (sym c.len.ensures ∙ c.if-len-text.false))) (lt_false _ _ c.if-text-gt32.false) (not_true _ (λ e. absurd (cc (c.in-None.ensures.fits.1 e)))))

@@ -1,0 +1,4 @@
+pub mod Merging
+pub mod Multiples
+pub mod Ranging
+pub mod Summing
