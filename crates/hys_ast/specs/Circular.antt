@@ -1,7 +1,7 @@
 -- What a definition mentions, and lists of definitions that lead back to their first.
 use Rattle.std.specs.Prelude.{◌≡◌, ℕ, List, [], ◌∷◌, Option, Some, None, Bool, true, false, ◌||◌, ◌⊎◌, ◌≢◌, map, IsTrue}
 use Rattle.std.specs.Str.{bytes_eq}
-use Rattle.std.specs.List.{AllByRecursion, Contains}
+use Rattle.std.specs.List.{AllByRecursion}
 use Rattle.hys_number.specs.Ops.{whole}
 use Rattle.hys_ast.specs.declared.source.Section.{Section}
 use Rattle.hys_ast.specs.declared.source.Section.TheVariants as section
@@ -9,7 +9,7 @@ use Rattle.hys_ast.specs.Tree.{Tree, Shape, Item, Source}
 use Rattle.hys_ast.specs.Tree as tree
 use Rattle.hys_ast.specs.Names.{Name, names, look, is_auxiliary}
 use Rattle.hys_ast.specs.Forms.{Form, form, guard_form}
-use Rattle.hys_ast.specs.Typed.{differ, any_kind, is_left}
+use Rattle.hys_ast.specs.Typed.{differ, any_kind, is_left, defines}
 
 -- the name stands in the expression
 abbrev pub stands : List ℕ → Tree → Bool
@@ -37,12 +37,14 @@ MentionedIn section.Linear ns n (tree.Plain e) = HasFactor n (form ns e)
 MentionedIn section.Da ns n (tree.Choice a b c) = IsTrue (stands n a) ⊎ (HasFactor n (form ns b) ⊎ InMaybe (λ e. HasFactor n (form ns e)) c)
 MentionedIn _ ns n _ = ⊥
 
+-- the property holds of an item of the list
+abbrev pub SomeItem : (Item → Type 0) → List Item → Type 0
+SomeItem P [] = ⊥
+SomeItem P (i ∷ is) = P i ⊎ SomeItem P is
+
 -- an item of the source defines the one name and mentions the other
-pub record Leads (s : Source) (n m : List ℕ) : Type 0 where
-  pub item : Item
-  pub stands : Contains s.items item
-  pub defines : item.name ≡ Some n
-  pub mentions : MentionedIn item.section (names s) m item.shape
+abbrev pub Leads : Source → List ℕ → List ℕ → Type 0
+Leads s n m = SomeItem (λ i. IsTrue (defines n i.name) × MentionedIn i.section (names s) m i.shape) s.items
 
 -- each name mentions the next, and the last mentions the name that is given
 abbrev pub LeadsTo : Source → List ℕ → List (List ℕ) → Type 0

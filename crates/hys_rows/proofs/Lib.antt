@@ -1,2 +1,4 @@
 pub mod Numbers
 pub mod Guarded
+pub mod Ruled
+pub mod Summed

@@ -3,8 +3,8 @@ use Rattle.std.specs.Prelude.{ℕ, List, [], ◌∷◌, codes, pos, Some, None}
 use Rattle.hys_number.specs.Number.{Number, make}
 use Rattle.hys_ast.specs.declared.tree.BinaryOp.TheVariants as binary
 use Rattle.hys_ast.specs.declared.source.Section.TheVariants as section
-use Rattle.hys_ast.specs.Tree.{Tree, Source}
-use Rattle.hys_rows.specs.Trees.{number, name, cast, negated, both, real_in, real, bool, parameter, item, choice, must}
+use Rattle.hys_ast.specs.Tree.{Tree, Item, Source}
+use Rattle.hys_rows.specs.Trees.{number, name, cast, negated, minus, both, real_in, real, bool, parameter, item, choice, must}
 
 abbrev pub n_over : ℕ → ℕ → Number
 n_over n d = make (pos n) d
@@ -28,3 +28,108 @@ guarded = guarded_by (both binary.Least (name (codes "x")) (number (codes "5")))
 -- d = x <= 20
 abbrev pub always : Source
 always = guarded_by (both binary.Most (name (codes "x")) (number (codes "20")))
+
+-- AUX { BOOL d1, d2; }, LOGIC { d1 = d2; d2 = ~d1; }
+abbrev pub led_round : Source
+led_round = record {
+  system = codes "y";
+  decls = bool section.Aux (codes "d1") ∷ bool section.Aux (codes "d2") ∷ [];
+  items = item section.Logic (codes "d1") (name (codes "d2")) ∷ item section.Logic (codes "d2") (negated (name (codes "d1"))) ∷ [];
+}
+
+-- AUX { BOOL d; }, LOGIC { d = d; }
+abbrev pub led_to_itself : Source
+led_to_itself = record {
+  system = codes "y";
+  decls = bool section.Aux (codes "d") ∷ [];
+  items = item section.Logic (codes "d") (name (codes "d")) ∷ [];
+}
+
+-- STATE { REAL x [3, high]; }, CONTINUOUS { x = x; }
+abbrev pub boxed : List ℕ → Source
+boxed high = record {
+  system = codes "p";
+  decls = real_in section.State (codes "x") (number (codes "3")) (number high) ∷ [];
+  items = item section.Continuous (codes "x") (name (codes "x")) ∷ [];
+}
+
+-- STATE { REAL x [0, 10]; }, INPUT { REAL y [0, 1]; BOOL a; }, CONTINUOUS { x = e; }
+abbrev pub goes_to : Tree → Source
+goes_to e = record {
+  system = codes "k";
+  decls = real_in section.State (codes "x") (number (codes "0")) (number (codes "10")) ∷ real_in section.Input (codes "y") (number (codes "0")) (number (codes "1")) ∷ bool section.Input (codes "a") ∷ [];
+  items = item section.Continuous (codes "x") e ∷ [];
+}
+
+-- x * y
+abbrev pub two_names : Source
+two_names = goes_to (both binary.Mul (name (codes "x")) (name (codes "y")))
+
+-- x / (2 - 2)
+abbrev pub by_zero : Source
+by_zero = goes_to (both binary.Div (name (codes "x")) (both binary.Sub (number (codes "2")) (number (codes "2"))))
+
+-- a + 1
+abbrev pub of_two_kinds : Source
+of_two_kinds = goes_to (both binary.Add (name (codes "a")) (number (codes "1")))
+
+-- x * 2, the like of which is right
+abbrev pub doubled : Source
+doubled = goes_to (both binary.Mul (name (codes "x")) (number (codes "2")))
+
+-- STATE { REAL x [0, 10]; }, INPUT { REAL u [-1, 1]; }, CONTINUOUS { x = x + u; }, and more items
+abbrev pub summing : List Item → Source
+summing more = record {
+  system = codes "s";
+  decls = real_in section.State (codes "x") (number (codes "0")) (number (codes "10")) ∷ real_in section.Input (codes "u") (minus (number (codes "1"))) (number (codes "1")) ∷ [];
+  items = item section.Continuous (codes "x") (both binary.Add (name (codes "x")) (name (codes "u"))) ∷ more;
+}
+
+abbrev pub summed : Source
+summed = summing []
+
+-- MUST { x <= 5; }
+abbrev pub demanding : Source
+demanding = summing (must (both binary.Most (name (codes "x")) (number (codes "5"))) ∷ [])
+
+-- STATE { REAL x [0, 10]; }, INPUT { BOOL a, b; }, AUX { REAL z; },
+-- DA { z = { IF a <-> ~b THEN 2*x }; }, CONTINUOUS { x = x; }
+abbrev pub choosing : Source
+choosing = record {
+  system = codes "c";
+  decls = real_in section.State (codes "x") (number (codes "0")) (number (codes "10")) ∷ bool section.Input (codes "a") ∷ bool section.Input (codes "b") ∷ real section.Aux (codes "z") ∷ [];
+  items =
+    choice (codes "z") (both binary.Iff (name (codes "a")) (negated (name (codes "b")))) (both binary.Mul (number (codes "2")) (name (codes "x"))) None
+    ∷ item section.Continuous (codes "x") (name (codes "x")) ∷ [];
+}
+
+-- A thermostat. STATE { REAL T [-10, 60]; BOOL on; }, INPUT { REAL amb [-10, 30]; }, OUTPUT { REAL y; },
+-- PARAMETER { REAL a = 0.8; REAL b = 1 - a; }, AUX { BOOL hot, cold; REAL heat; },
+-- AD { hot = T >= 22; cold = T <= 18; }, DA { heat = { IF on THEN 30 ELSE 0 }; },
+-- AUTOMATA { on = cold | (on & ~hot); }, CONTINUOUS { T = a*T + b*(amb + heat); },
+-- OUTPUT { y = T; }, MUST { T <= 55; }
+abbrev pub thermostat : Source
+thermostat = record {
+  system = codes "thermostat";
+  decls =
+    real_in section.State (codes "T") (minus (number (codes "10"))) (number (codes "60"))
+    ∷ bool section.State (codes "on")
+    ∷ real_in section.Input (codes "amb") (minus (number (codes "10"))) (number (codes "30"))
+    ∷ real section.Output (codes "y")
+    ∷ parameter (codes "a") (number (codes "0.8"))
+    ∷ parameter (codes "b") (both binary.Sub (number (codes "1")) (name (codes "a")))
+    ∷ bool section.Aux (codes "hot")
+    ∷ bool section.Aux (codes "cold")
+    ∷ real section.Aux (codes "heat")
+    ∷ [];
+  items =
+    item section.Ad (codes "hot") (both binary.Least (name (codes "T")) (number (codes "22")))
+    ∷ item section.Ad (codes "cold") (both binary.Most (name (codes "T")) (number (codes "18")))
+    ∷ choice (codes "heat") (name (codes "on")) (number (codes "30")) (Some (number (codes "0")))
+    ∷ item section.Automata (codes "on") (both binary.Or (name (codes "cold")) (both binary.And (name (codes "on")) (negated (name (codes "hot")))))
+    ∷ item section.Continuous (codes "T")
+      (both binary.Add (both binary.Mul (name (codes "a")) (name (codes "T"))) (both binary.Mul (name (codes "b")) (both binary.Add (name (codes "amb")) (name (codes "heat")))))
+    ∷ item section.OutputItem (codes "y") (name (codes "T"))
+    ∷ must (both binary.Most (name (codes "T")) (number (codes "55")))
+    ∷ [];
+}

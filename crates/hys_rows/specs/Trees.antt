@@ -54,3 +54,6 @@ choice n a b c = record { section = section.Da; name = Some n; place = somewhere
 
 abbrev pub must : Tree → Item
 must e = record { section = section.Must; name = None; place = somewhere; shape = tree.Plain e }
+
+abbrev pub minus : Tree → Tree
+minus a = tree.Unary unary.Neg a somewhere

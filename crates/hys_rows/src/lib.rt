@@ -3,3 +3,5 @@
 #![tactic(auto)]
 
 pub mod guards;
+pub mod rules;
+pub mod sums;
