@@ -1,5 +1,5 @@
 -- What a definition mentions, and lists of definitions that lead back to their first.
-use Rattle.std.specs.Prelude.{◌≡◌, ℕ, List, [], ◌∷◌, Option, Some, None, Bool, true, false, ◌||◌, ◌⊎◌, ◌≢◌, map, IsTrue}
+use Rattle.std.specs.Prelude.{ℕ, List, [], ◌∷◌, Option, Some, None, Bool, false, ◌||◌, ◌⊎◌, ◌≢◌, IsTrue}
 use Rattle.std.specs.Str.{bytes_eq}
 use Rattle.std.specs.List.{AllByRecursion}
 use Rattle.hys_number.specs.Ops.{whole}

@@ -3,13 +3,11 @@
 use Rattle.std.specs.Prelude.{◌≡◌, ℕ, List, Option, Some, None, Bool, true, false, cond, ◌≢◌, ◌⊎◌}
 use Rattle.std.specs.Str.{bytes_eq}
 use Rattle.hys_number.specs.Number.{Number}
-use Rattle.hys_number.specs.Ops.{◌+ₙ◌, ◌*ₙ◌, ◌-ₙ◌, ◌/ₙ◌, neg, whole}
-use Rattle.hys_ast.specs.declared.tree.UnaryOp.{UnaryOp}
-use Rattle.hys_ast.specs.declared.tree.UnaryOp.TheVariants as unary
+use Rattle.hys_number.specs.Ops.{◌+ₙ◌, ◌*ₙ◌, ◌-ₙ◌, ◌/ₙ◌, whole}
 use Rattle.hys_ast.specs.declared.tree.BinaryOp.{BinaryOp}
 use Rattle.hys_ast.specs.declared.tree.BinaryOp.TheVariants as binary
 use Rattle.hys_ast.specs.Tree as tree
-use Rattle.hys_ast.specs.Values.{literal, signed, computed}
+use Rattle.hys_ast.specs.Values.{literal, signed}
 use Rattle.hys_ast.specs.Names.{Name, look, is_parameter}
 
 pub record Form : Type 0 where

@@ -1,5 +1,5 @@
 -- The declared names of a source, with their boxes and the values of parameters.
-use Rattle.std.specs.Prelude.{ℕ, List, [], ◌∷◌, Option, Some, None, Bool, true, false, ◌||◌, map, cond}
+use Rattle.std.specs.Prelude.{ℕ, List, [], ◌∷◌, Option, Some, None, Bool, true, false, map, cond}
 use Rattle.std.specs.Str.{bytes_eq}
 use Rattle.std.specs.List.{find, filter}
 use Rattle.hys_number.specs.Number.{Number}

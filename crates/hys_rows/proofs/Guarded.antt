@@ -1,16 +1,15 @@
 -- The steps of the two guards.
-use Rattle.std.proofs.Common.{◌≡◌, ℕ, ◌<◌, ◌≤◌, ◌*◌, List, [], ◌∷◌, codes, pos, refl, sym, ◌∙◌, ap, arith, Bool, true, false, cond, ◌⊎◌, inl, inr}
+use Rattle.std.proofs.Common.{◌≡◌, ℕ, List, [], ◌∷◌, codes, refl, sym, ◌∙◌, ap, cond, inl, inr}
 use Rattle.std.specs.Str.{bytes_eq}
-use Rattle.hys_number.specs.Number.{Number, make}
-use Rattle.hys_number.specs.Ops.{◌+ₙ◌, ◌-ₙ◌, ◌*ₙ◌, neg, ◌≤ₙ◌, ◌<ₙ◌, whole}
+use Rattle.hys_number.specs.Number.{Number}
+use Rattle.hys_number.specs.Ops.{◌≤ₙ◌, ◌<ₙ◌, whole}
 use Rattle.hys_number.proofs.Field.{not-le}
-use Rattle.hys_ast.specs.declared.source.Kind.TheVariants as kind
 use Rattle.hys_ast.specs.Tree.{Tree}
 use Rattle.hys_ast.specs.Values.{Assignment, literal, guard_number}
-use Rattle.hys_ast.specs.Steps.{Legal, Step, GuardCase, GapOf}
+use Rattle.hys_ast.specs.Steps.{Legal, GuardCase, GapOf}
 use Rattle.hys_rows.specs.Sources.{guarded, always, guarded_by, tolerance, n_over}
 use Rattle.hys_rows.specs.OneStep.{OneStep}
-use Rattle.hys_rows.proofs.Numbers.{literal-0, literal-5, literal-10, literal-20, head_same, whole-is, never, real_not_bool, in_low, in_high, edge, above, below, far_low, far_high, far, not_below, three_low, three_high, within}
+use Rattle.hys_rows.proofs.Numbers.{head_same, never, real_not_bool, in_low, in_high, edge, above, below, far_low, far_high, far, not_below, three_low, three_high, within}
 
 at_x : Number → Number → Assignment
 at_x a b n = cond (bytes_eq n (codes "x")) a b
@@ -58,11 +57,11 @@ told_by e a w x' y h =
     }
 
 -- what the guard number decides
-true_of : (w : Assignment) (n : List ℕ) (g : Number) → GuardCase w n g → g ≤ₙ whole 0 → w n ≡ whole 1
+pub true_of : (w : Assignment) (n : List ℕ) (g : Number) → GuardCase w n g → g ≤ₙ whole 0 → w n ≡ whole 1
 true_of w n g (inl c) h = c.1
 true_of w n g (inr c) h = absurd ((not-le g (whole 0)).1 c.0 h)
 
-false_of : (w : Assignment) (n : List ℕ) (g : Number) → GuardCase w n g → whole 0 <ₙ g → w n ≡ whole 0
+pub false_of : (w : Assignment) (n : List ℕ) (g : Number) → GuardCase w n g → whole 0 <ₙ g → w n ≡ whole 0
 false_of w n g (inl c) h = absurd ((not-le g (whole 0)).1 h c.0)
 false_of w n g (inr c) h = c.1
 

@@ -1,5 +1,5 @@
 -- What the literals of the sources say, and lists of one element.
-use Rattle.std.proofs.Common.{◌≡◌, ℕ, ◌<◌, ◌≤◌, ◌*◌, ◌+◌, List, [], ◌∷◌, codes, pos, refl, sym, ◌∙◌, ap, arith, get_or, Bool, true, false, cond, subst, inl, inr}
+use Rattle.std.proofs.Common.{◌≡◌, ℕ, ◌<◌, ◌≤◌, ◌*◌, ◌+◌, List, [], ◌∷◌, codes, pos, refl, ap, arith, get_or, Bool, true, false, cond, subst, inl, inr}
 use Rattle.std.specs.Float.Numeral.{scan_numeral}
 use Rattle.hys_number.specs.Number.{Number, make}
 use Rattle.hys_number.specs.Ops.{◌+ₙ◌, ◌-ₙ◌, ◌*ₙ◌, neg, ◌≤ₙ◌, ◌<ₙ◌, whole}

@@ -1,13 +1,12 @@
 -- Which sources the rules accept.
-use Rattle.std.proofs.Common.{◌≡◌, ℕ, suc, ◌+◌, ◌<◌, ◌≤◌, ◌*◌, List, [], ◌∷◌, codes, pos, refl, sym, ◌∙◌, ap, arith, Bool, true, false, cond, ◌⊎◌, inl, inr, IsTrue, Option, Some}
+use Rattle.std.proofs.Common.{◌≡◌, ℕ, List, [], ◌∷◌, codes, refl, sym, ◌∙◌, ap, arith, Bool, true, false, cond, inl, inr, IsTrue, Option, Some}
 use Rattle.std.specs.Str.{bytes_eq}
-use Rattle.hys_number.specs.Number.{Number, make}
-use Rattle.hys_number.specs.Ops.{◌+ₙ◌, ◌-ₙ◌, ◌*ₙ◌, neg, ◌≤ₙ◌, ◌<ₙ◌, whole}
+use Rattle.hys_number.specs.Ops.{◌-ₙ◌, whole}
 use Rattle.hys_number.proofs.Field.{not-le, add_neg}
 use Rattle.hys_number.proofs.Order.{le_refl'}
 use Rattle.hys_number.proofs.Inverse.{zero_not_one}
-use Rattle.hys_ast.specs.Tree.{Tree, Source}
-use Rattle.hys_ast.specs.Values.{Assignment, literal}
+use Rattle.hys_ast.specs.Tree.{Source}
+use Rattle.hys_ast.specs.Values.{literal}
 use Rattle.hys_ast.specs.Names.{Name, names, is_auxiliary}
 use Rattle.hys_ast.specs.Typed.{Typed, Bounded, DeclaredOnce, DefinedOnce, HaveValues, any_kind, is_left}
 use Rattle.hys_ast.specs.Circular.{Circular, Leads, IsAuxiliary}
@@ -88,7 +87,7 @@ guarded_accepted = record {
   bounded = (λ t. zero_ten, (λ t. never t, tt));
   defined = (λ t. refl, (λ t. refl, tt));
   orders = not_circular guarded (λ n m h k. elim k [
-    inl p ↦ p.1 (ap (λ b. whole 0 -ₙ cond b (whole 1) (whole 0)) (not_that _ refl (bytes_eq (codes "x") m) _ h) ∙ add_neg (whole 0))
+    | inl p ↦ p.1 (ap (λ b. whole 0 -ₙ cond b (whole 1) (whole 0)) (not_that _ refl (bytes_eq (codes "x") m) _ h) ∙ add_neg (whole 0))
     | inr q ↦ elim q [ inl p ↦ p.1 | inr r ↦ r ]
   ]);
   limits = record { names = omega arith; expression = (omega arith, (omega arith, (omega arith, (omega arith, tt)))); nodes = omega arith };
@@ -102,7 +101,7 @@ always_accepted = record {
   bounded = (λ t. zero_ten, (λ t. never t, tt));
   defined = (λ t. refl, (λ t. refl, tt));
   orders = not_circular always (λ n m h k. elim k [
-    inl p ↦ p.1 (ap (λ b. cond b (whole 1) (whole 0) -ₙ whole 0) (not_that _ refl (bytes_eq (codes "x") m) _ h) ∙ add_neg (whole 0))
+    | inl p ↦ p.1 (ap (λ b. cond b (whole 1) (whole 0) -ₙ whole 0) (not_that _ refl (bytes_eq (codes "x") m) _ h) ∙ add_neg (whole 0))
     | inr q ↦ elim q [ inl p ↦ p.1 | inr r ↦ r ]
   ]);
   limits = record { names = omega arith; expression = (omega arith, (omega arith, (omega arith, (omega arith, tt)))); nodes = omega arith };

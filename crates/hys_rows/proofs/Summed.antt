@@ -1,13 +1,12 @@
 -- Steps by x = x + u.
-use Rattle.std.proofs.Common.{◌≡◌, ℕ, suc, ◌+◌, ◌<◌, ◌≤◌, ◌*◌, List, [], ◌∷◌, codes, refl, sym, ◌∙◌, ap, arith, Bool, true, false, cond, ◌⊎◌, inl, inr}
+use Rattle.std.proofs.Common.{◌≡◌, List, [], ◌∷◌, codes, refl, sym, ◌∙◌, ap, arith, cond, inl, inr}
 use Rattle.std.specs.Str.{bytes_eq}
-use Rattle.std.specs.List.{AllByRecursion}
-use Rattle.hys_number.specs.Number.{Number, make}
-use Rattle.hys_number.specs.Ops.{◌+ₙ◌, ◌-ₙ◌, ◌*ₙ◌, neg, ◌≤ₙ◌, ◌<ₙ◌, whole}
+use Rattle.hys_number.specs.Number.{Number}
+use Rattle.hys_number.specs.Ops.{◌+ₙ◌, neg, ◌≤ₙ◌, whole}
 use Rattle.hys_number.proofs.Field.{not-le}
-use Rattle.hys_ast.specs.Tree.{Tree, Item}
+use Rattle.hys_ast.specs.Tree.{Item}
 use Rattle.hys_ast.specs.Values.{Assignment, literal}
-use Rattle.hys_ast.specs.Steps.{Legal, Step, Run, stepped, ended}
+use Rattle.hys_ast.specs.Steps.{Legal, Run, stepped, ended}
 use Rattle.hys_ast.specs.Accepted.{Accepted}
 use Rattle.hys_rows.specs.Sources.{summing, summed, demanding, tolerance}
 use Rattle.hys_rows.specs.OneStep.{OneStep}

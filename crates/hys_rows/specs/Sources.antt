@@ -4,7 +4,7 @@ use Rattle.hys_number.specs.Number.{Number, make}
 use Rattle.hys_ast.specs.declared.tree.BinaryOp.TheVariants as binary
 use Rattle.hys_ast.specs.declared.source.Section.TheVariants as section
 use Rattle.hys_ast.specs.Tree.{Tree, Item, Source}
-use Rattle.hys_rows.specs.Trees.{number, name, cast, negated, minus, both, real_in, real, bool, parameter, item, choice, must}
+use Rattle.hys_rows.specs.Trees.{number, name, negated, minus, both, real_in, real, bool, parameter, item, choice, must}
 
 abbrev pub n_over : ℕ → ℕ → Number
 n_over n d = make (pos n) d
@@ -99,8 +99,8 @@ choosing = record {
   system = codes "c";
   decls = real_in section.State (codes "x") (number (codes "0")) (number (codes "10")) ∷ bool section.Input (codes "a") ∷ bool section.Input (codes "b") ∷ real section.Aux (codes "z") ∷ [];
   items =
-    choice (codes "z") (both binary.Iff (name (codes "a")) (negated (name (codes "b")))) (both binary.Mul (number (codes "2")) (name (codes "x"))) None
-    ∷ item section.Continuous (codes "x") (name (codes "x")) ∷ [];
+      choice (codes "z") (both binary.Iff (name (codes "a")) (negated (name (codes "b")))) (both binary.Mul (number (codes "2")) (name (codes "x"))) None
+      ∷ item section.Continuous (codes "x") (name (codes "x")) ∷ [];
 }
 
 -- A thermostat. STATE { REAL T [-10, 60]; BOOL on; }, INPUT { REAL amb [-10, 30]; }, OUTPUT { REAL y; },
@@ -112,24 +112,24 @@ abbrev pub thermostat : Source
 thermostat = record {
   system = codes "thermostat";
   decls =
-    real_in section.State (codes "T") (minus (number (codes "10"))) (number (codes "60"))
-    ∷ bool section.State (codes "on")
-    ∷ real_in section.Input (codes "amb") (minus (number (codes "10"))) (number (codes "30"))
-    ∷ real section.Output (codes "y")
-    ∷ parameter (codes "a") (number (codes "0.8"))
-    ∷ parameter (codes "b") (both binary.Sub (number (codes "1")) (name (codes "a")))
-    ∷ bool section.Aux (codes "hot")
-    ∷ bool section.Aux (codes "cold")
-    ∷ real section.Aux (codes "heat")
-    ∷ [];
+      real_in section.State (codes "T") (minus (number (codes "10"))) (number (codes "60"))
+      ∷ bool section.State (codes "on")
+      ∷ real_in section.Input (codes "amb") (minus (number (codes "10"))) (number (codes "30"))
+      ∷ real section.Output (codes "y")
+      ∷ parameter (codes "a") (number (codes "0.8"))
+      ∷ parameter (codes "b") (both binary.Sub (number (codes "1")) (name (codes "a")))
+      ∷ bool section.Aux (codes "hot")
+      ∷ bool section.Aux (codes "cold")
+      ∷ real section.Aux (codes "heat")
+      ∷ [];
   items =
-    item section.Ad (codes "hot") (both binary.Least (name (codes "T")) (number (codes "22")))
-    ∷ item section.Ad (codes "cold") (both binary.Most (name (codes "T")) (number (codes "18")))
-    ∷ choice (codes "heat") (name (codes "on")) (number (codes "30")) (Some (number (codes "0")))
-    ∷ item section.Automata (codes "on") (both binary.Or (name (codes "cold")) (both binary.And (name (codes "on")) (negated (name (codes "hot")))))
-    ∷ item section.Continuous (codes "T")
+      item section.Ad (codes "hot") (both binary.Least (name (codes "T")) (number (codes "22")))
+      ∷ item section.Ad (codes "cold") (both binary.Most (name (codes "T")) (number (codes "18")))
+      ∷ choice (codes "heat") (name (codes "on")) (number (codes "30")) (Some (number (codes "0")))
+      ∷ item section.Automata (codes "on") (both binary.Or (name (codes "cold")) (both binary.And (name (codes "on")) (negated (name (codes "hot")))))
+      ∷ item section.Continuous (codes "T")
       (both binary.Add (both binary.Mul (name (codes "a")) (name (codes "T"))) (both binary.Mul (name (codes "b")) (both binary.Add (name (codes "amb")) (name (codes "heat")))))
-    ∷ item section.OutputItem (codes "y") (name (codes "T"))
-    ∷ must (both binary.Most (name (codes "T")) (number (codes "55")))
-    ∷ [];
+      ∷ item section.OutputItem (codes "y") (name (codes "T"))
+      ∷ must (both binary.Most (name (codes "T")) (number (codes "55")))
+      ∷ [];
 }

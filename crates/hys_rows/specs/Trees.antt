@@ -1,6 +1,5 @@
 -- Short ways to write trees. Their places don't matter.
-use Rattle.std.specs.Prelude.{ℕ, List, [], Option, Some, None, String, codes}
-use Rattle.hys_number.specs.Number.{Number}
+use Rattle.std.specs.Prelude.{ℕ, List, Option, Some, None}
 use Rattle.hys_ast.specs.declared.place.Place.{Place}
 use Rattle.hys_ast.specs.declared.tree.BinaryOp.{BinaryOp}
 use Rattle.hys_ast.specs.declared.tree.UnaryOp.TheVariants as unary
