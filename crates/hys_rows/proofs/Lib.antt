@@ -4,3 +4,5 @@ pub mod Ruled
 pub mod Summed
 pub mod Chosen
 pub mod Heated
+pub mod Cast
+pub mod Once

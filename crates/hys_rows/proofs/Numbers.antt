@@ -28,6 +28,22 @@ pub literal-3 : literal (codes "3") ≡ ratio 3 0 1
 unfolding literal scan_numeral
 literal-3 = make-ratio (pos 3) 1 (omega arith)
 
+pub literal-4 : literal (codes "4") ≡ ratio 4 0 1
+unfolding literal scan_numeral
+literal-4 = make-ratio (pos 4) 1 (omega arith)
+
+pub literal-tenth : literal (codes "0.1") ≡ ratio 1 0 10
+unfolding literal scan_numeral
+literal-tenth = make-ratio (pos 1) 10 (omega arith)
+
+pub literal-fifth : literal (codes "0.2") ≡ ratio 2 0 10
+unfolding literal scan_numeral
+literal-fifth = make-ratio (pos 2) 10 (omega arith)
+
+pub literal-small : literal (codes "1e-18") ≡ make (pos 1) 1000000000000000000
+unfolding literal scan_numeral
+literal-small = refl
+
 pub literal-5 : literal (codes "5") ≡ ratio 5 0 1
 unfolding literal scan_numeral
 literal-5 = make-ratio (pos 5) 1 (omega arith)
@@ -80,6 +96,9 @@ never e = absurd (subst (λ b. cond b ⊥ (Unit {0})) e tt)
 pub positive-1 : 0 < 1
 positive-1 = omega arith
 
+pub positive-2 : 0 < 2
+positive-2 = omega arith
+
 pub positive-5 : 0 < 5
 positive-5 = omega arith
 
@@ -93,7 +112,7 @@ pub positive-2000 : 0 < 2000
 positive-2000 = omega arith
 
 -- what decides an inequality of fractions
-pub ruleset decides = (ratios, positive-1, positive-5, positive-10, positive-1000, positive-2000)
+pub ruleset decides = (ratios, positive-1, positive-2, positive-5, positive-10, positive-1000, positive-2000)
 
 pub over-is : (n d : ℕ) → 0 < d → make (pos n) d ≡ ratio n 0 d
 over-is n d h = make-ratio (pos n) d h
@@ -272,3 +291,25 @@ box_of_T = rw (literal-10, literal-60) (simp decides (omega arith))
 
 pub box_outside : neg (literal (codes "10")) ≤ₙ literal (codes "30")
 box_outside = rw (literal-10, literal-30) (simp decides (omega arith))
+
+-- ---- casts
+pub three_tenths : literal (codes "0.1") +ₙ literal (codes "0.2") ≡ make (pos 3) 10
+three_tenths = rw (literal-tenth, literal-fifth, over-is 3 10 (omega arith)) (simp decides (omega arith))
+
+pub three_more : whole 0 +ₙ literal (codes "3") *ₙ whole 1 +ₙ literal (codes "2") *ₙ whole 0 ≡ whole 3
+three_more = rw (literal-3, literal-2, whole-is 0, whole-is 1, whole-is 3) (simp decides (omega arith))
+
+pub three_of_four : literal (codes "3") *ₙ whole 1 +ₙ literal (codes "2") *ₙ whole 0 ≤ₙ literal (codes "4")
+three_of_four = rw (literal-3, literal-2, literal-4, whole-is 0, whole-is 1) (simp decides (omega arith))
+
+pub five_of_four : literal (codes "4") <ₙ literal (codes "3") *ₙ whole 1 +ₙ literal (codes "2") *ₙ whole 1
+five_of_four = rw (literal-3, literal-2, literal-4, whole-is 1) (simp decides (omega arith))
+
+pub zero_high : whole 0 ≤ₙ literal (codes "10")
+zero_high = rw (literal-10, whole-is 0) (simp decides (omega arith))
+
+pub half_below : make (pos 1) 2 <ₙ whole 1
+half_below = rw (over-is 1 2 (omega arith), whole-is 1) (simp decides (omega arith))
+
+pub half_above : whole 0 <ₙ make (pos 1) 2
+half_above = rw (over-is 1 2 (omega arith), whole-is 0) (simp decides (omega arith))

@@ -1,10 +1,10 @@
 -- The sources that are worked out.
-use Rattle.std.specs.Prelude.{ℕ, List, [], ◌∷◌, codes, pos, Some, None}
+use Rattle.std.specs.Prelude.{ℕ, List, [], ◌∷◌, codes, pos, Some, None, true}
 use Rattle.hys_number.specs.Number.{Number, make}
 use Rattle.hys_ast.specs.declared.tree.BinaryOp.TheVariants as binary
 use Rattle.hys_ast.specs.declared.source.Section.TheVariants as section
 use Rattle.hys_ast.specs.Tree.{Tree, Item, Source}
-use Rattle.hys_rows.specs.Trees.{number, name, negated, minus, both, real_in, real, bool, parameter, item, choice, must}
+use Rattle.hys_rows.specs.Trees.{number, name, cast, truth, negated, minus, both, real_in, real, bool, parameter, item, choice, must}
 
 abbrev pub n_over : ℕ → ℕ → Number
 n_over n d = make (pos n) d
@@ -133,3 +133,86 @@ thermostat = record {
       ∷ must (both binary.Most (name (codes "T")) (number (codes "55")))
       ∷ [];
 }
+
+-- STATE { REAL x [0, 10]; }, INPUT { BOOL a, b; }, CONTINUOUS { x = x + 3*(REAL a) + 2*(REAL b); },
+-- MUST { 3*(REAL a) + 2*(REAL b) <= 4; }
+abbrev pub weighed : Tree → Tree → Tree
+weighed a b = both binary.Add (both binary.Mul (number (codes "3")) a) (both binary.Mul (number (codes "2")) b)
+
+abbrev pub casting : Source
+casting = record {
+  system = codes "b";
+  decls = real_in section.State (codes "x") (number (codes "0")) (number (codes "10")) ∷ bool section.Input (codes "a") ∷ bool section.Input (codes "b") ∷ [];
+  items =
+      item section.Continuous (codes "x") (both binary.Add (both binary.Add (name (codes "x")) (both binary.Mul (number (codes "3")) (cast (codes "a")))) (both binary.Mul (number (codes "2")) (cast (codes "b"))))
+      ∷ must (both binary.Most (weighed (cast (codes "a")) (cast (codes "b"))) (number (codes "4"))) ∷ [];
+}
+
+-- STATE { REAL x [0, high]; }, CONTINUOUS { x = x; }
+abbrev pub boxed_by : Tree → Source
+boxed_by high = record {
+  system = codes "p";
+  decls = real_in section.State (codes "x") (number (codes "0")) high ∷ [];
+  items = item section.Continuous (codes "x") (name (codes "x")) ∷ [];
+}
+
+-- INPUT { REAL u [0, 1]; }, AUX { REAL z; }, LINEAR { z = e; }
+abbrev pub linear_by : Tree → Source
+linear_by e = record {
+  system = codes "l";
+  decls = real_in section.Input (codes "u") (number (codes "0")) (number (codes "1")) ∷ real section.Aux (codes "z") ∷ [];
+  items = item section.Linear (codes "z") e ∷ [];
+}
+
+-- z - z + u
+abbrev pub cancelled : Source
+cancelled = linear_by (both binary.Add (both binary.Sub (name (codes "z")) (name (codes "z"))) (name (codes "u")))
+
+-- z + u
+abbrev pub kept : Source
+kept = linear_by (both binary.Add (name (codes "z")) (name (codes "u")))
+
+-- PARAMETER { REAL b = a; REAL a = 1; }
+abbrev pub too_early : Source
+too_early = record {
+  system = codes "q";
+  decls = parameter (codes "b") (name (codes "a")) ∷ parameter (codes "a") (number (codes "1")) ∷ [];
+  items = [];
+}
+
+-- STATE { REAL x [0, a]; }, PARAMETER { REAL a = 1; }, CONTINUOUS { x = x; }
+abbrev pub bounded_later : Source
+bounded_later = record {
+  system = codes "q";
+  decls = real_in section.State (codes "x") (number (codes "0")) (name (codes "a")) ∷ parameter (codes "a") (number (codes "1")) ∷ [];
+  items = item section.Continuous (codes "x") (name (codes "x")) ∷ [];
+}
+
+-- ---- one rule broken in each
+-- STATE { REAL x [0, 10]; }, INPUT { BOOL x; }, CONTINUOUS { x = x; }
+abbrev pub declared_twice : Source
+declared_twice = record {
+  system = codes "t";
+  decls = real_in section.State (codes "x") (number (codes "0")) (number (codes "10")) ∷ bool section.Input (codes "x") ∷ [];
+  items = item section.Continuous (codes "x") (name (codes "x")) ∷ [];
+}
+
+-- PARAMETER { REAL a; }
+abbrev pub without_value : Source
+without_value = record { system = codes "v"; decls = real section.Parameter (codes "a") ∷ []; items = [] }
+
+-- STATE { REAL x; }, CONTINUOUS { x = x; }
+abbrev pub without_box : Source
+without_box = record { system = codes "v"; decls = real section.State (codes "x") ∷ []; items = item section.Continuous (codes "x") (name (codes "x")) ∷ [] }
+
+-- AUX { BOOL d; }, OUTPUT { REAL y; } and some items
+abbrev pub with_items : List Item → Source
+with_items is = record { system = codes "i"; decls = bool section.Aux (codes "d") ∷ real section.Output (codes "y") ∷ []; items = is }
+
+-- y = 1
+abbrev pub shown : Item
+shown = item section.OutputItem (codes "y") (number (codes "1"))
+
+-- d = TRUE
+abbrev pub settled : Item
+settled = item section.Logic (codes "d") (truth true)

@@ -1,5 +1,5 @@
 -- Short ways to write trees. Their places don't matter.
-use Rattle.std.specs.Prelude.{ℕ, List, Option, Some, None}
+use Rattle.std.specs.Prelude.{ℕ, List, Bool, Option, Some, None}
 use Rattle.hys_ast.specs.declared.place.Place.{Place}
 use Rattle.hys_ast.specs.declared.tree.BinaryOp.{BinaryOp}
 use Rattle.hys_ast.specs.declared.tree.UnaryOp.TheVariants as unary
@@ -56,3 +56,6 @@ must e = record { section = section.Must; name = None; place = somewhere; shape 
 
 abbrev pub minus : Tree → Tree
 minus a = tree.Unary unary.Neg a somewhere
+
+abbrev pub truth : Bool → Tree
+truth b = tree.Truth b somewhere

@@ -2,6 +2,7 @@
 //! nothing.
 #![tactic(auto)]
 
+pub mod casts;
 pub mod choices;
 pub mod guards;
 pub mod rules;

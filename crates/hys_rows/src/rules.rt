@@ -1,10 +1,13 @@
 //! Sources that a rule refuses, and their like that it doesn't.
 
-ghost use Rattle.std.specs.Prelude.{◌≡◌, [], ◌∷◌, codes, List};
+ghost use Rattle.std.specs.Prelude.{◌≡◌, [], ◌∷◌, codes, List, true};
 ghost use Rattle.hys_ast.specs.Typed.{Typed, Bounded, DeclaredOnce, DefinedOnce, HaveValues};
 ghost use Rattle.hys_ast.specs.Circular.{Circular};
 ghost use Rattle.hys_ast.specs.Accepted.{Accepted, WithinLimits};
-ghost use Rattle.hys_rows.specs.Sources.{guarded, always, led_round, led_to_itself, boxed, two_names, by_zero, of_two_kinds, doubled};
+ghost use Rattle.hys_rows.specs.Sources.{guarded, always, led_round, led_to_itself, boxed, two_names, by_zero, of_two_kinds, doubled, declared_twice, without_value, without_box, with_items, shown, settled};
+ghost use Rattle.hys_rows.specs.Trees.{name, number, truth, both, negated, item, must};
+ghost use Rattle.hys_ast.specs.declared.tree.BinaryOp.TheVariants as binary;
+ghost use Rattle.hys_ast.specs.declared.source.Section.TheVariants as section;
 
 /// Definitions that lead back to themselves. Nothing else is wrong with them.
 pub fn cycles()
@@ -32,4 +35,26 @@ pub fn expressions()
 pub fn guards()
     ensures five { Accepted guarded }
     ensures twenty { Accepted always }
+{}
+
+/// Each name is declared once, each parameter has a value, each real state a box, and each AUX,
+/// STATE and OUTPUT name is defined once.
+pub fn once()
+    ensures right { DefinedOnce (with_items (settled ∷ shown ∷ [])) × Typed (with_items (settled ∷ shown ∷ [])) }
+    ensures twice { ¬ (DeclaredOnce declared_twice) }
+    ensures value { ¬ (HaveValues without_value) }
+    ensures boxed { ¬ (Bounded without_box) }
+    ensures missing { ¬ (DefinedOnce (with_items (shown ∷ []))) }
+    ensures again { ¬ (DefinedOnce (with_items (settled ∷ shown ∷ settled ∷ []))) }
+{}
+
+/// Left names suit their sections, and what is at their right is of the right kind.
+pub fn places()
+    ensures section { ¬ (Typed (with_items (item section.Linear (codes "d") (number (codes "1")) ∷ shown ∷ []))) }
+    ensures unknown { ¬ (Typed (with_items (item section.Logic (codes "e") (truth true) ∷ settled ∷ shown ∷ []))) }
+    ensures output { ¬ (Typed (with_items (settled ∷ item section.OutputItem (codes "y") (name (codes "y")) ∷ []))) }
+    ensures equation { ¬ (Typed (with_items (item section.Ad (codes "d") (both binary.Equal (number (codes "1")) (number (codes "1"))) ∷ shown ∷ []))) }
+    ensures within { ¬ (Typed (with_items (item section.Logic (codes "d") (negated (both binary.Most (number (codes "1")) (number (codes "1")))) ∷ shown ∷ []))) }
+    ensures top { Typed (with_items (settled ∷ shown ∷ must (both binary.Equal (number (codes "1")) (number (codes "1"))) ∷ [])) }
+    ensures kind { ¬ (Typed (with_items (settled ∷ item section.OutputItem (codes "y") (truth true) ∷ []))) }
 {}
