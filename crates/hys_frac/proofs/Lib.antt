@@ -3,3 +3,4 @@ pub mod Fracs
 pub mod Numerals
 pub mod Powers
 pub mod Readings
+pub mod RoundTrip

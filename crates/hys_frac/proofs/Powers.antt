@@ -1,12 +1,12 @@
-use Rattle.std.proofs.Common.{◌≡◌, ℕ, zero, suc, ◌+◌, ◌-◌, ◌*◌, ◌/◌, ◌^◌, ◌<◌, ◌≤◌, ℤ, pos, unsigned_abs, to_z, Bool, true, false, refl, sym, ◌∙◌, ap, ap₂, subst, arith, mul-pos, mul-le-mul_left, ◌⊎◌, inl, inr}
+use Rattle.std.proofs.Common.{◌≡◌, ℕ, zero, suc, ◌+◌, ◌-◌, ◌*◌, ◌/◌, ◌^◌, ◌<◌, ◌≤◌, ℤ, pos, unsigned_abs, to_z, false, sym, ◌∙◌, ap, ap₂, subst, arith, mul-pos, mul-le-mul_left, ◌⊎◌, inl, inr}
 use Rattle.std.proofs.Math.Nat.{pow-succ', div-le_self}
 use Rattle.std.proofs.lemmas.Nat.{pow-add}
 use mir.Syntax.{w128}
-use borrow.Author.Differences.{up, down, ints}
-use Rattle.hys_number.specs.Gcd.{gcd, gcd_pos, gcd_is, gcd_left, exact}
+use borrow.Author.Differences.{ints}
+use Rattle.hys_number.specs.Gcd.{gcd, gcd_is, gcd_left, exact}
 use Rattle.hys_number.specs.Number.{Number, make, make_reduced, make_is_divided}
 use Rattle.hys_number.specs.Ops.{◌*ₙ◌, whole, int, fits}
-use Rattle.hys_number.proofs.Laws.{ratio, same-ratio, mul-ratio, whole-ratio}
+use Rattle.hys_number.proofs.Laws.{same-ratio, mul-ratio, whole-ratio}
 use Rattle.hys_number.proofs.Inverse.{make-ratio, int_parts}
 use Rattle.hys_frac.proofs.Fracs.{fits_no_num, fits_no_den}
 use Rattle.hys_frac.proofs.Numerals.{power_pos}
@@ -37,7 +37,7 @@ pub den_stays : (num den k : ℕ) → 0 < den → 0 < k → gcd num den ≡ 1 �
 den_stays num den k h l e =
     let t : Number = make (pos num) (den * k) in
     let b : make (pos num) (den * k) *ₙ whole k ≡ make (pos num) den = ap₂ ◌*ₙ◌ (make-ratio (pos num) (den * k) (mul-pos h l)) (whole-ratio k 1 (omega arith)) ∙ mul-ratio num 0 (den * k) (k * 1) 0 1 (mul-pos h l) (omega arith)
-        ∙ (same-ratio _ _ (den * k * 1) num 0 den (mul-pos (mul-pos h l) (omega arith)) h).1 (omega arith) ∙ sym (make-ratio (pos num) den h) in
+    ∙ (same-ratio _ _ (den * k * 1) num 0 den (mul-pos (mul-pos h l) (omega arith)) h).1 (omega arith) ∙ sym (make-ratio (pos num) den h) in
     let c : (make (pos num) den).den ≡ den = (make_reduced (pos num) den h e).1 in
     subst (λ (x : ℕ). x ≤ (make (pos num) (den * k)).den) (ap (λ (x : Number). x.den) b ∙ c) (times_den (make (pos num) (den * k)) k)
 

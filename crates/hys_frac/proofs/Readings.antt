@@ -1,6 +1,6 @@
-use Rattle.std.proofs.Common.{◌≡◌, ◌+◌, ◌-◌, ◌*◌, ◌^◌, ◌<◌, ◌≤◌, ◌&&◌, ◌||◌, ◌⊎◌, inl, inr, ℕ, suc, zero, List, [], ◌∷◌, ◌++◌, Bool, true, false, cond, pos, length, take, drop, get_or, arith, tests, refl, ◌∙◌, sym, ap, ap₂, subst, nat_eq, nat_lt, Ok, Err, Some, None, Result, IsSome, IsTrue, ◌↔◌, Option, length-append, mul-le-mul_right}
+use Rattle.std.proofs.Common.{◌≡◌, ◌+◌, ◌*◌, ◌^◌, ◌<◌, ◌≤◌, ◌&&◌, ◌||◌, ◌⊎◌, inl, inr, ℕ, List, [], ◌∷◌, ◌++◌, Bool, true, false, cond, pos, length, arith, tests, refl, ◌∙◌, sym, ap, subst, nat_eq, nat_lt, Ok, Err, Result, length-append, mul-le-mul_right}
 use Rattle.std.specs.Str.Parse.{AllDigits, digits_value, digits_value_after}
-use Rattle.std.specs.Float.Numeral.{Parts, digits_len, digits_end, numeral_digits}
+use Rattle.std.specs.Float.Numeral.{Parts, digits_len, digits_end}
 use Rattle.std.proofs.lemmas.List.{take_all}
 use Rattle.std.proofs.lemmas.Nat.{pow-add}
 use Rattle.std.proofs.lemmas.Int.Digits.{digits_value-lt}
@@ -9,7 +9,7 @@ use Rattle.hys_number.specs.Ops.{fits}
 use Rattle.hys_frac.specs.Read.{judged, ratio_reading, literal_value}
 use Rattle.hys_frac.specs.declared.read.FracFault.{FracFault}
 use Rattle.hys_frac.specs.declared.read.FracFault.TheVariants.{Form, Long, Range}
-use Rattle.hys_frac.proofs.Numerals.{digits_at_front, digits_append, power_grows, power_pos}
+use Rattle.hys_frac.proofs.Numerals.{digits_at_front, digits_append, power_grows}
 
 -- ---- tests
 pub lt_true : (m n : ℕ) → m < n → nat_lt m n ≡ true

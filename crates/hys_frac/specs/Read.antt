@@ -1,5 +1,5 @@
 -- What a number text says: an optional sign, then a literal, or digits `/` digits of which the second aren't all 0.
-use Rattle.std.specs.Prelude.{List, [], ◌∷◌, ◌++◌, ℕ, ◌+◌, ◌*◌, ◌^◌, ℤ, pos, Bool, true, false, ◌&&◌, ◌||◌, length, take, drop, nat_eq, nat_lt, cond, slice_index, Result, Ok, Err}
+use Rattle.std.specs.Prelude.{List, [], ◌∷◌, ℕ, ◌+◌, ◌*◌, ◌^◌, pos, Bool, true, false, ◌&&◌, ◌||◌, length, take, drop, nat_eq, nat_lt, cond, slice_index, Result, Ok, Err}
 use Rattle.std.specs.Str.Parse.{digits_value}
 use Rattle.std.specs.Float.Numeral.{Parts, scan_numeral, has_digits, numeral_digits, tens_up, tens_down, digits_len}
 use Rattle.std.specs.Coded.{Coded, code_by, coded×, coded_ℕ, coded_list, coded_bool}

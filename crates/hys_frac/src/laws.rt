@@ -1,8 +1,10 @@
 //! The laws of an ordered field, of the numbers that fractions stand for. The calls do nothing.
 
-ghost use Rattle.std.specs.Prelude.{◌≡◌, ◌≢◌, ◌↔◌, ◌⊎◌};
+ghost use Rattle.std.specs.Prelude.{◌≡◌, ◌≢◌, ◌↔◌, ◌⊎◌, IsTrue, Ok};
 ghost use Rattle.hys_number.specs.Number.{Number};
-ghost use Rattle.hys_number.specs.Ops.{◌+ₙ◌, ◌*ₙ◌, ◌-ₙ◌, ◌≤ₙ◌, ◌<ₙ◌, whole, neg, inverse};
+ghost use Rattle.hys_number.specs.Ops.{◌+ₙ◌, ◌*ₙ◌, ◌-ₙ◌, ◌≤ₙ◌, ◌<ₙ◌, whole, neg, inverse, fits};
+ghost use Rattle.hys_frac.specs.Read.{reading};
+ghost use Rattle.hys_frac.specs.Written.{number_text};
 
 /// Numbers with their sum and product are a commutative ring.
 pub fn ring()
@@ -36,4 +38,9 @@ pub fn ordered()
     ensures sum { (a b c : Number) → (a ≤ₙ b) ↔ (a +ₙ c ≤ₙ b +ₙ c) }
     ensures product { (a b c : Number) → whole 0 ≤ₙ c → a ≤ₙ b → c *ₙ a ≤ₙ c *ₙ b }
     ensures turned { (a b c : Number) → c ≤ₙ whole 0 → a ≤ₙ b → c *ₙ b ≤ₙ c *ₙ a }
+{}
+
+/// What `write` wrote of a number that fits is read as that number.
+pub fn reads_written()
+    ensures { (a : Number) → IsTrue (fits a) → reading (number_text a) ≡ Ok a }
 {}

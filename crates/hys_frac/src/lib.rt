@@ -9,6 +9,8 @@ mod numeral;
 mod read;
 mod reduce;
 mod shift;
+#[cfg(test)]
+mod tests;
 mod text;
 
 pub use frac::Frac;

@@ -7,6 +7,8 @@ mod multiple;
 mod problem;
 mod range;
 mod sum;
+#[cfg(test)]
+mod tests;
 
 pub use form::{Affine, Interval, Point, Row, Term};
 pub use lost::{LinFault, Lost, Op};

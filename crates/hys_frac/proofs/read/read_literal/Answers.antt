@@ -1,20 +1,9 @@
-use Rattle.std.proofs.Common.{rules, ◌≡◌, ◌+◌, ◌-◌, ◌*◌, ◌^◌, ◌<◌, ◌≤◌, ◌&&◌, ◌||◌, ℕ, List, [], ◌∷◌, ◌++◌, Bool, true, false, cond, pos, to_z, unsigned_abs, length, take, drop, arith, tests, refl, ◌∙◌, sym, ap, ap₂, subst, nat_eq, nat_lt, Ok, Err, Some, None, Result, IfSome, IsSome, IsTrue, ◌↔◌}
-use Rattle.std.proofs.Math.Nat.{sub-zero}
-use borrow.Author.Tests.{eq-eqb, ne_eqb}
-use Rattle.std.specs.Str.Parse.{AllDigits, digits_value, digits_value_after}
-use Rattle.std.specs.Float.Numeral.{Parts, scan_numeral, digits_len, has_digits, numeral_digits, tens_up, tens_down}
-use Rattle.hys_number.specs.Number.{Number, make}
-use Rattle.hys_number.specs.Ops.{neg, fits}
-use Rattle.hys_frac.specs.Read.{judged, literal_value, literal_reading, ratio_reading, unsigned_reading, turned, without_sign, reading}
-use Rattle.hys_frac.specs.declared.read.FracFault.{FracFault}
+use Rattle.std.proofs.Common.{◌≡◌, ◌&&◌, ℕ, List, false, cond, length, refl, ◌∙◌, sym, subst, nat_eq, nat_lt, Ok, Err}
+use Rattle.std.specs.Float.Numeral.{Parts, scan_numeral, has_digits}
+use Rattle.hys_frac.specs.Read.{judged, literal_value, literal_reading}
 use Rattle.hys_frac.specs.declared.read.FracFault.TheVariants.{Form, Long, Range}
-use Rattle.hys_frac.proofs.Fracs.{none_fits, value_along, fits_along}
-use Rattle.hys_frac.proofs.Numerals.{digits_at_front, digits_append, power_grows}
-use Rattle.hys_frac.proofs.Powers.{wide_is}
-use Rattle.hys_frac.proofs.Readings.{lt_true, lt_false, eq_true, eq_false, all_true, one_false, both_true, either_false, or_true, or_false, not_true, as_form, as_long, as_ok, as_range, all_digits, short_room, short_digits, both_room, both_digits, both_small}
-use Rattle.std.proofs.Common.{◌⊎◌, inl, inr}
-use Rattle.std.proofs.lemmas.List.{take_all}
-use Rattle.std.proofs.Common.{length-drop}
+use Rattle.hys_frac.proofs.Readings.{lt_true, lt_false, eq_true, eq_false, both_true, either_false, not_true, as_form, as_long, as_ok, as_range}
+use Rattle.std.proofs.Common.{inl, inr}
 use Rattle.hys_frac.proofs.read.read_literal.Goals as goal
 use Rattle.hys_frac.proofs.read.read_literal.Goals.{then-not-has_digits-via-then-not-has_digits, then-not-has_digits-via-else-not-has_digits+then-len-text}
 

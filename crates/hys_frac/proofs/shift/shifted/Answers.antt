@@ -1,10 +1,6 @@
-use Rattle.std.proofs.Common.{◌≡◌, ◌+◌, ◌-◌, ◌*◌, ◌/◌, ◌^◌, ◌<◌, ◌≤◌, ℕ, pos, to_z, unsigned_abs, arith, ◌∙◌, sym, ap, ap₂, subst, ◌⊎◌, inl, inr}
-use mir.Syntax.{w128}
-use borrow.Author.Differences.{ints}
-use Rattle.hys_number.specs.Gcd.{gcd-one, gcd_pos}
-use Rattle.hys_number.specs.Number.{Number, make}
-use Rattle.hys_frac.proofs.Fracs.{none_fits, value_along, fits_along}
-use Rattle.hys_frac.proofs.Powers.{long_num, long_den, raised_step, raised_end, Lowered, lowered_step, lowered_end, up_shift, down_shift, wide_is}
+use Rattle.std.proofs.Common.{◌≤◌, arith}
+use Rattle.hys_frac.proofs.Fracs.{value_along, fits_along}
+use Rattle.hys_frac.proofs.Powers.{up_shift, down_shift}
 use Rattle.hys_frac.proofs.shift.shifted.Goals as goal
 
 pub returns-then-up-down-clause-value : goal.returns-then-up-down-clause-value

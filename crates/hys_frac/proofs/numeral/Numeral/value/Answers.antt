@@ -1,20 +1,9 @@
-use Rattle.std.proofs.Common.{rules, ◌≡◌, ◌+◌, ◌-◌, ◌*◌, ◌^◌, ◌<◌, ◌≤◌, ◌&&◌, ◌||◌, ℕ, List, [], ◌∷◌, ◌++◌, Bool, true, false, cond, pos, to_z, unsigned_abs, length, take, drop, arith, tests, refl, ◌∙◌, sym, ap, ap₂, subst, nat_eq, nat_lt, slice_index, Ok, Err, Some, None, Result, IfSome, IsSome, IsTrue, ◌↔◌}
-use Rattle.std.proofs.Math.Nat.{sub-zero}
-use borrow.Author.Tests.{eq-eqb, ne_eqb}
-use Rattle.std.specs.Str.Parse.{AllDigits, digits_value, digits_value_after}
-use Rattle.std.specs.Float.Numeral.{Parts, scan_numeral, digits_len, has_digits, numeral_digits, tens_up, tens_down}
-use Rattle.hys_number.specs.Number.{Number, make}
-use Rattle.hys_number.specs.Ops.{neg, fits}
-use Rattle.hys_frac.specs.Read.{judged, literal_value, literal_reading, ratio_reading, unsigned_reading, turned, without_sign, reading}
-use Rattle.hys_frac.specs.declared.read.FracFault.{FracFault}
-use Rattle.hys_frac.specs.declared.read.FracFault.TheVariants.{Form, Long, Range}
-use Rattle.hys_frac.proofs.Fracs.{none_fits, value_along, fits_along}
-use Rattle.hys_frac.proofs.Numerals.{digits_at_front, digits_append, power_grows}
-use Rattle.hys_frac.proofs.Powers.{wide_is}
-use Rattle.hys_frac.proofs.Readings.{lt_true, lt_false, eq_true, eq_false, all_true, one_false, both_true, either_false, or_true, or_false, not_true, as_form, as_long, as_ok, as_range, literal_down, literal_up, all_digits, short_room, short_digits, both_room, both_digits, both_small}
-use Rattle.std.proofs.Common.{◌⊎◌, inl, inr}
-use Rattle.std.proofs.lemmas.List.{take_all}
-use Rattle.std.proofs.Common.{length-drop}
+use Rattle.std.proofs.Common.{◌+◌, ◌^◌, ◌<◌, ◌≤◌, length, arith, ◌∙◌, sym, ap, subst}
+use Rattle.std.specs.Str.Parse.{digits_value}
+use Rattle.std.specs.Float.Numeral.{Parts}
+use Rattle.hys_frac.specs.Read.{literal_value}
+use Rattle.hys_frac.proofs.Fracs.{value_along, fits_along}
+use Rattle.hys_frac.proofs.Readings.{literal_down, literal_up, short_room, short_digits, both_room, both_digits, both_small}
 use Rattle.hys_frac.proofs.numeral.Numeral.value.Goals as goal
 
 pub number-requires-clause-room : goal.number-requires-clause-room

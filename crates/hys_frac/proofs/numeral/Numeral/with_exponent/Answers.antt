@@ -1,16 +1,6 @@
-use Rattle.std.proofs.Common.{rules, ◌≡◌, ◌+◌, ◌-◌, ◌*◌, ◌^◌, ◌<◌, ◌≤◌, ◌&&◌, ◌||◌, ℕ, List, [], ◌∷◌, ◌++◌, Bool, true, false, cond, pos, to_z, unsigned_abs, length, take, drop, arith, tests, refl, ◌∙◌, sym, ap, ap₂, subst, nat_eq, nat_lt, Ok, Err, Some, None, Result, IfSome, IsSome, IsTrue, ◌↔◌}
-use Rattle.std.proofs.Math.Nat.{sub-zero}
-use borrow.Author.Tests.{eq-eqb, ne_eqb}
-use Rattle.std.specs.Str.Parse.{AllDigits, digits_value, digits_value_after}
-use Rattle.std.specs.Float.Numeral.{Parts, scan_numeral, digits_len, has_digits, numeral_digits, tens_up, tens_down}
-use Rattle.hys_number.specs.Number.{Number, make}
-use Rattle.hys_number.specs.Ops.{neg, fits}
-use Rattle.hys_frac.specs.Read.{judged, literal_value, literal_reading, ratio_reading, unsigned_reading, turned, without_sign, reading}
-use Rattle.hys_frac.specs.declared.read.FracFault.{FracFault}
-use Rattle.hys_frac.specs.declared.read.FracFault.TheVariants.{Form, Long, Range}
-use Rattle.hys_frac.proofs.Fracs.{none_fits, value_along, fits_along}
-use Rattle.hys_frac.proofs.Numerals.{digits_at_front, digits_append, power_grows}
-use Rattle.hys_frac.proofs.Powers.{wide_is}
+use Rattle.std.proofs.Common.{◌-◌, ◌≤◌, ℕ, List, length, take, drop, arith}
+use Rattle.std.specs.Float.Numeral.{digits_len}
+use Rattle.hys_frac.proofs.Numerals.{digits_at_front}
 use Rattle.hys_frac.proofs.numeral.Numeral.with_exponent.Goals as goal
 use Rattle.std.proofs.lemmas.List.{length-take}
 
