@@ -6,3 +6,4 @@ pub mod Chosen
 pub mod Heated
 pub mod Cast
 pub mod Once
+pub mod Limited

@@ -5,6 +5,7 @@ ghost use Rattle.hys_ast.specs.Typed.{Typed, Bounded, DeclaredOnce, DefinedOnce,
 ghost use Rattle.hys_ast.specs.Circular.{Circular};
 ghost use Rattle.hys_ast.specs.Accepted.{Accepted, WithinLimits};
 ghost use Rattle.hys_rows.specs.Sources.{guarded, always, led_round, led_to_itself, boxed, two_names, by_zero, of_two_kinds, doubled, declared_twice, without_value, without_box, with_items, shown, settled};
+ghost use Rattle.hys_rows.specs.Long.{named, signed};
 ghost use Rattle.hys_rows.specs.Trees.{name, number, truth, both, negated, item, must};
 ghost use Rattle.hys_ast.specs.declared.tree.BinaryOp.TheVariants as binary;
 ghost use Rattle.hys_ast.specs.declared.source.Section.TheVariants as section;
@@ -57,4 +58,11 @@ pub fn places()
     ensures within { ¬ (Typed (with_items (item section.Logic (codes "d") (negated (both binary.Most (number (codes "1")) (number (codes "1")))) ∷ shown ∷ []))) }
     ensures top { Typed (with_items (settled ∷ shown ∷ must (both binary.Equal (number (codes "1")) (number (codes "1"))) ∷ [])) }
     ensures kind { ¬ (Typed (with_items (settled ∷ item section.OutputItem (codes "y") (truth true) ∷ []))) }
+{}
+
+/// 200 names, 1,000 nodes in one expression and 4,000 in all, and no more.
+pub fn limits()
+    ensures names { WithinLimits (named 200) × ¬ (WithinLimits (named 201)) }
+    ensures expression { WithinLimits (signed 1 999) × ¬ (WithinLimits (signed 1 1000)) }
+    ensures nodes { WithinLimits (signed 4 999) × ¬ (WithinLimits (signed 5 800)) }
 {}
