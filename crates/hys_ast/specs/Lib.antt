@@ -4,3 +4,10 @@ pub mod Tree
 pub mod Seen
 pub mod Grammar
 pub mod Nodes
+pub mod Values
+pub mod Names
+pub mod Forms
+pub mod Typed
+pub mod Circular
+pub mod Steps
+pub mod Accepted

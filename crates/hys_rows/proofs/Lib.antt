@@ -1,0 +1,9 @@
+pub mod Numbers
+pub mod Guarded
+pub mod Ruled
+pub mod Summed
+pub mod Chosen
+pub mod Heated
+pub mod Cast
+pub mod Once
+pub mod Limited

@@ -1,0 +1,4 @@
+pub mod Trees
+pub mod Sources
+pub mod OneStep
+pub mod Long

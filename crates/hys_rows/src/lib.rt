@@ -1,0 +1,9 @@
+//! What small sources mean, worked out by hand: theorems over the definitions alone. The calls do
+//! nothing.
+#![tactic(auto)]
+
+pub mod casts;
+pub mod choices;
+pub mod guards;
+pub mod rules;
+pub mod sums;
