@@ -30,7 +30,7 @@ abbrev pub items_expressions : List Item → List Tree
 items_expressions [] = []
 items_expressions (i ∷ is) = shape_expressions i.shape ++ items_expressions is
 
--- the expressions of a source, in the order of the text
+-- the expressions of a source, in the order of the text; a condition, a THEN and an ELSE are three
 abbrev pub expressions : Source → List Tree
 expressions s = decls_expressions s.decls ++ items_expressions s.items
 

@@ -1,9 +1,9 @@
 -- Which trees are within the limits.
 use Rattle.std.proofs.Common.{◌≡◌, ℕ, zero, suc, ◌≤◌, [], ◌++◌, codes, refl, arith, replicate, length}
-use Rattle.std.specs.List.{flat_map}
 use Rattle.hys_ast.specs.Tree.{Decl}
 use Rattle.hys_ast.specs.declared.source.Section.TheVariants as section
-use Rattle.hys_ast.specs.Accepted.{WithinLimits, nodes, maybe}
+use Rattle.hys_ast.specs.Nodes.{nodes}
+use Rattle.hys_ast.specs.Accepted.{WithinLimits}
 use Rattle.hys_rows.specs.Trees.{bool}
 use Rattle.hys_rows.specs.Long.{signs, signed, named}
 
@@ -15,10 +15,6 @@ nodes-signs (suc n) = omega (arith, nodes-signs n)
 length-names : (n : ℕ) (d : Decl) → length (replicate n d) ≡ n
 length-names zero d = refl
 length-names (suc n) d = omega (arith, length-names n d)
-
-no_expressions : (n : ℕ) → flat_map {X = Decl} (λ d. maybe d.low ++ (maybe d.high ++ maybe d.value)) (replicate n (bool section.Input (codes "a"))) ≡ []
-no_expressions zero = refl
-no_expressions (suc n) = no_expressions n
 
 pub names_in : WithinLimits (named 200)
 names_in = record {
