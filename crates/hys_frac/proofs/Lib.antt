@@ -3,5 +3,7 @@ pub mod Fracs
 pub mod Wholes
 pub mod Numerals
 pub mod Powers
+pub mod QuotientOrder
 pub mod Readings
 pub mod RoundTrip
+pub mod SignedOrder

@@ -6,6 +6,9 @@ mod frac;
 pub mod laws;
 mod list;
 mod numeral;
+#[cfg(test)]
+mod quotient_tests;
+mod quotients;
 mod read;
 mod reduce;
 mod shift;
