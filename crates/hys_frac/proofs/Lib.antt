@@ -1,4 +1,5 @@
 pub mod Comparisons
+pub mod Crosswise
 pub mod Fracs
 pub mod Wholes
 pub mod Numerals
@@ -6,4 +7,5 @@ pub mod Powers
 pub mod QuotientOrder
 pub mod Readings
 pub mod RoundTrip
+pub mod Scaling
 pub mod SignedOrder

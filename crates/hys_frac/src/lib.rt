@@ -11,6 +11,7 @@ mod quotient_tests;
 mod quotients;
 mod read;
 mod reduce;
+mod scaled;
 mod shift;
 #[cfg(test)]
 mod tests;

@@ -55,3 +55,32 @@ fn quotients_are_told_apart(rt: HostRuntime) -> Result<(), Fail> {
     }
     Ok(())
 }
+
+#[test]
+fn scaled_numbers_fit_exactly_at_the_edges(rt: HostRuntime) -> Result<(), Fail> {
+    let large = (9223372036854775807, 1);
+    let small = (1, 9223372036854775807);
+    let rows = [
+        (large, (2, 1), (2, 1), Some(large)),
+        (large, large, large, Some(large)),
+        (small, small, small, Some(small)),
+        (large, (2, 1), (-2, 1), Some((-9223372036854775807, 1))),
+        (small, (-1, 2), (-1, 2), Some(small)),
+        (large, (1, 2), (9223372036854775807, 2), Some((1, 1))),
+        ((-6, 35), (10, 21), (4, 49), Some((-1, 1))),
+        ((0, 1), large, small, Some((0, 1))),
+        ((0, 1), large, (0, 1), None),
+        (large, (1, 1), (0, 1), None),
+        (large, (2, 1), (1, 1), None),
+        (large, (1, 1), (1, 2), None),
+        (small, (1, 2), (-1, 1), None),
+    ];
+    for (left, right, below, want) in rows {
+        let result = match frac(left)?.mul_div(frac(right)?, frac(below)?) {
+            Some(number) => Some((number.num(), number.den())),
+            None => None,
+        };
+        assert_eq!(rt; result, want, "at {left:?}, {right:?} and {below:?}");
+    }
+    Ok(())
+}
