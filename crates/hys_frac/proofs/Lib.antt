@@ -1,7 +1,11 @@
 pub mod Comparisons
+pub mod Crosswise
 pub mod Fracs
 pub mod Wholes
 pub mod Numerals
 pub mod Powers
+pub mod QuotientOrder
 pub mod Readings
 pub mod RoundTrip
+pub mod Scaling
+pub mod SignedOrder

@@ -6,8 +6,12 @@ mod frac;
 pub mod laws;
 mod list;
 mod numeral;
+#[cfg(test)]
+mod quotient_tests;
+mod quotients;
 mod read;
 mod reduce;
+mod scaled;
 mod shift;
 #[cfg(test)]
 mod tests;
