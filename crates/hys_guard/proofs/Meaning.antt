@@ -12,7 +12,8 @@ use Rattle.hys_lin.specs.declared.form.Affine.{Affine}
 use Rattle.hys_lin.specs.declared.form.Row.{Row}
 use Rattle.hys_lin.specs.declared.form.Interval.{Interval}
 use Rattle.hys_lin.specs.Sums.{Assignment, sum_of, value, Holds, HoldAll, Within}
-use Rattle.hys_guard.specs.Bits.{bit, IsBit, chosen}
+use Rattle.hys_lin.specs.Bits.{bit, IsBit}
+use Rattle.hys_guard.specs.Bits.{chosen}
 use Rattle.hys_guard.specs.Numbers.{own_term, opposite_term}
 use Rattle.hys_guard.specs.Stated.{IsRow, Stated, AreRows, EachBelow, guard_stated, choice_stated, copy_stated, term_value}
 

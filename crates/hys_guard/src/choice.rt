@@ -4,7 +4,8 @@ ghost use Rattle.hys_lin.specs.Sums.{Assignment, value, AreTerms, EachColumn, Ho
 ghost use Rattle.std.specs.Prelude.{◌∷◌, ◌++◌, List as Elements};
 ghost use Rattle.hys_lin.specs.declared.form.Row.{Row as LinRow};
 ghost use Rattle.hys_number.specs.Ops.{◌-ₙ◌};
-ghost use Rattle.hys_guard.specs.Bits.{bit, chosen};
+ghost use Rattle.hys_lin.specs.Bits.{bit};
+ghost use Rattle.hys_guard.specs.Bits.{chosen};
 ghost use Rattle.hys_guard.specs.Numbers.{Judged, choice_numbers, pair_numbers, row_numbers, joins, own_term as own_term_of, opposite_term, subtract};
 ghost use Rattle.hys_guard.specs.Set.{JoinedTerms, EachOwn, negated};
 ghost use Rattle.hys_guard.specs.Stated.{AreRows, IsRow, EachBelow, choice_stated, pair_stated, bound_by};

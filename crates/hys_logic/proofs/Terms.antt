@@ -9,7 +9,7 @@ use Rattle.hys_number.proofs.Field.{add_assoc, neg_neg}
 use Rattle.hys_number.proofs.Ring.{by_ring, v, k, minus, ◌⊕◌, ◌⊗◌, ◌⊖◌}
 use Rattle.hys_lin.specs.declared.form.Term.{Term}
 use Rattle.hys_lin.specs.declared.form.Affine.{Affine}
-use Rattle.hys_prog.specs.Formulas.{bit}
+use Rattle.hys_lin.specs.Bits.{bit}
 use Rattle.hys_lin.specs.Sums.{Assignment, sum_of, value, AreTerms, EachColumn}
 use Rattle.hys_logic.specs.declared.literal.Literal.{Literal}
 use Rattle.hys_logic.specs.declared.literal.Literal.TheVariants.{Fixed, Column}

@@ -1,7 +1,8 @@
 ghost use Rattle.std.specs.Prelude.{◌≡◌, ◌+◌, ◌*◌, ◌^◌, ◌≤◌, ◌<◌, ◌↔◌, IfOk, length, ℕ, Bool};
 ghost use Rattle.hys_number.specs.Number.{Number};
 ghost use Rattle.hys_lin.specs.Sums.{Assignment, value, AreTerms, EachColumn, HoldAll};
-ghost use Rattle.hys_prog.specs.Formulas.{tree_of, connectives, EachName, IsBit, bit, truth};
+ghost use Rattle.hys_lin.specs.Bits.{bit, IsBit};
+ghost use Rattle.hys_prog.specs.Formulas.{tree_of, connectives, EachName, truth};
 ghost use Rattle.hys_logic.specs.declared.row.Sign.TheVariants.{Plus, Minus};
 ghost use Rattle.hys_prog.specs.declared.formula.Connective.TheVariants.{And, Iff};
 ghost use Rattle.hys_logic.specs.Literals.{column_in, literal_of, number_of, LiteralBelow};

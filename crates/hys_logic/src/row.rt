@@ -1,7 +1,7 @@
 ghost use Rattle.std.specs.Prelude.{◌≡◌, IfOk, ℕ, ◌≤◌, ◌<◌, unsigned_abs, false, ◌∷◌, [], ◌+◌, ◌-ℤ◌};
 ghost use Rattle.hys_number.specs.Ops.{whole};
 ghost use Rattle.hys_lin.specs.Sums.{EachColumn};
-ghost use Rattle.hys_prog.specs.Formulas.{bit as bit_of};
+ghost use Rattle.hys_lin.specs.Bits.{bit as bit_of};
 ghost use Rattle.hys_logic.specs.declared.literal.Literal.TheVariants.{Fixed};
 ghost use Rattle.hys_logic.specs.declared.row.Sign.TheVariants.{Plus};
 ghost use Rattle.hys_logic.specs.Literals.{LiteralBelow};

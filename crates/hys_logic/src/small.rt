@@ -1,7 +1,7 @@
 ghost use Rattle.std.specs.Prelude.{◌≡◌, ◌≤◌, unsigned_abs, IsTrue};
 ghost use Rattle.hys_number.specs.Ops.{◌+ₙ◌, whole, fits};
 ghost use Rattle.hys_logic.specs.Rows.{int};
-ghost use Rattle.hys_prog.specs.Formulas.{bit as bit_of};
+ghost use Rattle.hys_lin.specs.Bits.{bit as bit_of};
 
 use hys_frac::Frac;
 
