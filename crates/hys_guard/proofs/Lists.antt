@@ -10,17 +10,15 @@ use Rattle.hys_lin.specs.declared.form.Term.{Term}
 use Rattle.hys_lin.specs.Sums.{Assignment, sum_of, AreTerms, EachColumn}
 use Rattle.hys_lin.specs.declared.form.Affine.{Affine}
 use Rattle.hys_lin.specs.declared.form.Row.{Row}
+use Rattle.hys_lin.proofs.Lists.{each-append, each_more, terms-append, sum-append}
 use Rattle.hys_guard.specs.Numbers.{factor_at, constant_by, own_term, opposite_term}
 use Rattle.hys_guard.specs.Set.{Splits, Piece, Around, TakenOut, IsSet, negated, signed, join_by, unit_by, JoinedTerms, EachOwn}
-use Rattle.hys_guard.specs.Stated.{IsRow, bound_by, copied_by, guarded_by, turned_by, apart_by, term_value}
+use Rattle.hys_lin.specs.Stated.{IsRow}
+use Rattle.hys_guard.specs.Stated.{bound_by, copied_by, guarded_by, turned_by, apart_by, term_value}
 use Rattle.hys_guard.specs.declared.terms.Side.{Side}
 use Rattle.hys_guard.specs.declared.terms.Side.TheVariants.{Upper, Lower}
 
 -- ---- a property of each column
-pub each-append : (P : ℕ → Type 0) (xs ys : List Term) → EachColumn P xs → EachColumn P ys → EachColumn P (xs ++ ys)
-each-append P [] ys h i = i
-each-append P (t ∷ ts) ys h i = (h.0, each-append P ts ys h.1 i)
-
 pub each_left : (P : ℕ → Type 0) (xs ys : List Term) → EachColumn P (xs ++ ys) → EachColumn P xs
 each_left P [] ys h = tt
 each_left P (t ∷ ts) ys h = (h.0, each_left P ts ys h.1)
@@ -28,10 +26,6 @@ each_left P (t ∷ ts) ys h = (h.0, each_left P ts ys h.1)
 pub each_right : (P : ℕ → Type 0) (xs ys : List Term) → EachColumn P (xs ++ ys) → EachColumn P ys
 each_right P [] ys h = h
 each_right P (t ∷ ts) ys h = each_right P ts ys h.1
-
-pub each_more : (P Q : ℕ → Type 0) (xs : List Term) → ((c : ℕ) → P c → Q c) → EachColumn P xs → EachColumn Q xs
-each_more P Q [] f h = tt
-each_more P Q (t ∷ ts) f h = (f t.column h.0, each_more P Q ts f h.1)
 
 -- ---- sorted terms
 pub terms_left : (xs ys : List Term) → AreTerms (xs ++ ys) → AreTerms xs
@@ -41,12 +35,6 @@ terms_left (t ∷ ts) ys h = (h.0, each_left (λ c. t.column < c) ts ys h.1, ter
 pub terms_right : (xs ys : List Term) → AreTerms (xs ++ ys) → AreTerms ys
 terms_right [] ys h = h
 terms_right (t ∷ ts) ys h = terms_right ts ys h.2
-
--- terms below a column before terms from it on
-pub terms-append : (c : ℕ) (xs ys : List Term) → AreTerms xs → AreTerms ys → EachColumn (λ d. d < c) xs → EachColumn (λ d. c ≤ d) ys → AreTerms (xs ++ ys)
-terms-append c [] ys h i l m = i
-terms-append c (t ∷ ts) ys h i l m =
-    (h.0, each-append (λ d. t.column < d) ts ys h.1 (each_more (λ d. c ≤ d) (λ d. t.column < d) ys (λ d q. let p : t.column < c = l.0 in omega arith) m), terms-append c ts ys h.2 i l.1 m)
 
 pub after_from : (c i : ℕ) (xs : List Term) (t : Term) → AreTerms xs → i < length xs → t ≡ get_or xs i t → c ≤ t.column → EachColumn (λ d. c ≤ d) (drop i xs)
 after_from c i [] t h l e m = absurd (omega arith)
@@ -177,10 +165,6 @@ pub negated_more : (i : ℕ) (xs done : List Term) (t : Term) → i < length xs 
 negated_more i xs done t l e h = rw (take_more xs i t l, ← e, negated-append (take i xs) (t ∷ []), h) refl
 
 -- ---- what setting a factor keeps and changes
-pub sum-append : (xs ys : List Term) (w : Assignment) → sum_of (xs ++ ys) w ≡ sum_of xs w +ₙ sum_of ys w
-sum-append [] ys w = by_ring (sum_of ys w ∷ []) (v 0) (k 0 ⊕ v 0) refl
-sum-append (t ∷ ts) ys w = rw (sum-append ts ys w) (sym (add_assoc (t.factor *ₙ w t.column) (sum_of ts w) (sum_of ys w)))
-
 piece_sum : (c : ℕ) (a : Number) (here : List Term) (w : Assignment) → Piece c a here → sum_of here w ≡ a *ₙ w c
 piece_sum c a here w (inl p) = rw (p.1, p.0) (by_ring (w c ∷ []) (k 0) (k 0 ⊗ v 0) refl)
 piece_sum c a here w (inr p) = rw (p.1) (add_zero (a *ₙ w c))

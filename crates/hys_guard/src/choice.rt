@@ -8,7 +8,8 @@ ghost use Rattle.hys_lin.specs.Bits.{bit};
 ghost use Rattle.hys_guard.specs.Bits.{chosen};
 ghost use Rattle.hys_guard.specs.Numbers.{Judged, choice_numbers, pair_numbers, row_numbers, joins, own_term as own_term_of, opposite_term, subtract};
 ghost use Rattle.hys_guard.specs.Set.{JoinedTerms, EachOwn, negated};
-ghost use Rattle.hys_guard.specs.Stated.{AreRows, IsRow, EachBelow, choice_stated, pair_stated, bound_by};
+ghost use Rattle.hys_lin.specs.Stated.{AreRows, IsRow, EachBelow};
+ghost use Rattle.hys_guard.specs.Stated.{choice_stated, pair_stated, bound_by};
 
 use crate::fault::GuardFault;
 use crate::numbers::{difference, joined, product};

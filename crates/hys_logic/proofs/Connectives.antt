@@ -18,13 +18,8 @@ use Rattle.hys_logic.specs.declared.row.Sign.{Sign}
 use Rattle.hys_logic.specs.declared.row.Sign.TheVariants.{Plus, Minus}
 use Rattle.hys_logic.specs.Literals.{column_part, constant_part, number_of, opposite}
 use Rattle.hys_logic.specs.Rows.{signed, int, row_by, connective_stated}
-use Rattle.hys_logic.specs.Stated.{Stated}
+use Rattle.hys_lin.specs.Stated.{HoldStated}
 use Rattle.hys_logic.proofs.Smalls.{int-whole, int-minus}
-
--- what the stated rows say
-abbrev pub HoldStated : Assignment → List Stated → Type 0
-HoldStated v [] = Unit {0}
-HoldStated v (s ∷ ss) = (s.left v ≤ₙ s.bound) × HoldStated v ss
 
 -- ---- truth values
 abbrev BitRow : Sign → Bool → Sign → Bool → Sign → Bool → Number → Type 0

@@ -14,7 +14,7 @@ use Rattle.hys_logic.specs.declared.literal.Literal.TheVariants.{Fixed, Column}
 use Rattle.hys_logic.specs.declared.row.Sign.{Sign}
 use Rattle.hys_logic.specs.declared.row.Sign.TheVariants.{Plus, Minus}
 use Rattle.hys_logic.specs.Literals.{column_part, constant_part, opposite, literal_of, LiteralBelow}
-use Rattle.hys_logic.specs.Stated.{Stated, AreRows, EachBelow}
+use Rattle.hys_lin.specs.Stated.{Stated, AreRows, EachBelow}
 
 abbrev pub signed : Sign → Number → Number
 signed Plus a = a

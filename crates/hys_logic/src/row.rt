@@ -6,7 +6,7 @@ ghost use Rattle.hys_logic.specs.declared.literal.Literal.TheVariants.{Fixed};
 ghost use Rattle.hys_logic.specs.declared.row.Sign.TheVariants.{Plus};
 ghost use Rattle.hys_logic.specs.Literals.{LiteralBelow};
 ghost use Rattle.hys_logic.specs.Rows.{signed, row_by, int, turned, IsSum, AreOf};
-ghost use Rattle.hys_logic.specs.Stated.{IsRow};
+ghost use Rattle.hys_lin.specs.Stated.{IsRow};
 
 use crate::literal::Literal;
 use crate::small::{one, small, two};
