@@ -13,7 +13,6 @@ ghost use Rattle.hys_guard.specs.Stated.{choice_stated, pair_stated, bound_by};
 
 use crate::fault::GuardFault;
 use crate::numbers::{difference, joined, product};
-use crate::small::one;
 use crate::terms::{Side, factor_at, row_with, set_factor, signed};
 use hys_frac::{Frac, List};
 use hys_lin::{Affine, Interval, Row, Term};
@@ -37,7 +36,7 @@ fn opposite(alloc: Global, literal: &Affine) -> Result<Affine, GuardFault>
     ensures terms { IfOk result (λ r. r.terms ≡ negated literal.now.terms) }
     ensures judged { Judged (subtract (whole 1) literal.now.constant ∷ []) result }
 {
-    let constant = difference(one(), literal.constant)?;
+    let constant = difference(Frac::whole(1), literal.constant)?;
     let terms = signed(alloc, Side::Upper, literal.terms.items())?;
     Ok(Affine {
         terms: List::of(terms),

@@ -5,7 +5,6 @@ ghost use Rattle.hys_guard.specs.Numbers.{factor_at as factor_in, constant_by};
 ghost use Rattle.hys_guard.specs.declared.terms.Side.TheVariants.{Upper};
 ghost use Rattle.hys_guard.specs.Set.{Splits, TakenOut, IsSet, unit_by, signed as signed_terms};
 
-use crate::small::{one, zero};
 use hys_frac::{Frac, List};
 use hys_lin::{Row, Term};
 use std::alloc::{AllocError, Global};
@@ -33,8 +32,8 @@ impl Side {
         ensures { result ≡ unit_by self }
     {
         match self {
-            Side::Upper => one(),
-            Side::Lower => one().neg(),
+            Side::Upper => Frac::whole(1),
+            Side::Lower => Frac::whole(1).neg(),
         }
     }
 }
@@ -70,7 +69,7 @@ pub fn set_factor(terms: &mut Vec<Term>, column: u32, factor: Frac) -> Result<()
     ensures { IfOk result (λ _. IsSet column (factor_in terms.old.items column) factor terms.old.items terms.new.items) }
 {
     let place = take_out(terms, column);
-    if factor != zero() {
+    if factor != Frac::whole(0) {
         terms.insert(place, Term { column, factor })?;
     }
     Ok(())
@@ -85,7 +84,7 @@ pub fn factor_at(terms: &[Term], column: u32) -> Frac
             return term.factor;
         }
     }
-    zero()
+    Frac::whole(0)
 }
 
 /// The form's terms as a row has them that bounds a column by it: negated in one from above.

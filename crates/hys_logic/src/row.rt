@@ -9,7 +9,7 @@ ghost use Rattle.hys_logic.specs.Rows.{signed, row_by, int, turned, IsSum, AreOf
 ghost use Rattle.hys_lin.specs.Stated.{IsRow};
 
 use crate::literal::Literal;
-use crate::small::{one, small, two};
+use crate::small::small;
 use hys_frac::{Frac, List};
 use hys_lin::{Row, Term};
 use std::alloc::{AllocError, Global};
@@ -27,8 +27,8 @@ impl Sign {
         ensures { result ≡ signed self (whole 1) }
     {
         match self {
-            Sign::Plus => one(),
-            Sign::Minus => one().neg(),
+            Sign::Plus => Frac::whole(1),
+            Sign::Minus => Frac::whole(1).neg(),
         }
     }
 
@@ -37,8 +37,8 @@ impl Sign {
         ensures { result ≡ signed self (whole 2) }
     {
         match self {
-            Sign::Plus => two(),
-            Sign::Minus => two().neg(),
+            Sign::Plus => Frac::whole(2),
+            Sign::Minus => Frac::whole(2).neg(),
         }
     }
 
