@@ -1,38 +1,24 @@
 -- The numbers that the rows of a guard and of a choice are made of, each with the operation that
 -- gives it, in the order in which they are looked for.
-use Rattle.std.specs.Prelude.{◌≡◌, ℕ, List, [], ◌∷◌, ◌++◌, Option, Some, None, Result, Ok, Err, IsTrue, ◌⊎◌, cond}
+use Rattle.std.specs.Prelude.{◌≡◌, ℕ, List, [], ◌∷◌, ◌++◌, Option, Some, None, Result, Ok, Err, cond}
 use Rattle.std.proofs.Common.{eqb}
 use Rattle.hys_number.specs.Number.{Number}
-use Rattle.hys_number.specs.Ops.{◌*ₙ◌, ◌-ₙ◌, neg, whole, fits}
+use Rattle.hys_number.specs.Ops.{◌*ₙ◌, ◌-ₙ◌, neg, whole}
 use Rattle.hys_lin.specs.declared.form.Term.{Term}
 use Rattle.hys_lin.specs.declared.form.Affine.{Affine}
 use Rattle.hys_lin.specs.declared.form.Interval.{Interval}
 use Rattle.hys_lin.specs.declared.lost.Lost.{Lost as Operation}
-use Rattle.hys_lin.specs.Operations.{outcome, plus, minus, times}
+use Rattle.hys_lin.specs.Operations.{first_lost, plus, minus, times}
 use Rattle.hys_guard.specs.declared.fault.GuardFault.{GuardFault}
 use Rattle.hys_guard.specs.declared.fault.GuardFault.TheVariants.{Lost, Memory}
 use Rattle.hys_guard.specs.declared.terms.Side.{Side}
 use Rattle.hys_guard.specs.declared.terms.Side.TheVariants.{Upper, Lower}
 
--- ---- operations
--- the result of the operation fits
-abbrev pub Fits : Operation → Type 0
-Fits o = IsTrue (fits (outcome o))
-
--- the result of each operation fits
-abbrev pub AllFit : List Operation → Type 0
-AllFit [] = Unit {0}
-AllFit (o ∷ os) = Fits o × AllFit os
-
--- it is the first of the operations whose result doesn't fit
-abbrev pub FirstLost : List Operation → Operation → Type 0
-FirstLost [] lost = ⊥
-FirstLost (o ∷ os) lost = (¬ (Fits o) × (lost ≡ o)) ⊎ (Fits o × FirstLost os lost)
-
--- an answer is given exactly where all fit, and else the first that doesn't; want of memory is free
+-- an answer is given exactly where all results fit, and else the first operation whose result doesn't;
+-- want of memory is free
 abbrev pub Judged : {X : Type 0} → List Operation → Result X GuardFault → Type 0
-Judged os (Ok x) = AllFit os
-Judged os (Err (Lost lost)) = FirstLost os lost
+Judged os (Ok x) = first_lost os ≡ None
+Judged os (Err (Lost lost)) = first_lost os ≡ Some lost
 Judged os (Err Memory) = Unit {0}
 
 -- ---- a guard
