@@ -4,7 +4,7 @@ use Rattle.std.proofs.Common.{get_or, take, drop, refl, sym, ◌∙◌, ap, arit
 use Rattle.std.proofs.lemmas.List.{take_more, take_at, drop_at, take-append-drop}
 use Rattle.hys_number.specs.Number.{Number}
 use Rattle.hys_number.specs.Ops.{◌+ₙ◌, ◌*ₙ◌, ◌-ₙ◌, neg, whole}
-use Rattle.hys_number.proofs.Field.{add_assoc, add_zero, neg_neg}
+use Rattle.hys_number.proofs.Field.{add_zero, neg_neg}
 use Rattle.hys_number.proofs.Ring.{by_ring, v, k, minus, ◌⊕◌, ◌⊗◌, ◌⊖◌}
 use Rattle.hys_lin.specs.declared.form.Term.{Term}
 use Rattle.hys_lin.specs.Sums.{Assignment, sum_of, AreTerms, EachColumn}

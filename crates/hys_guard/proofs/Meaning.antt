@@ -1,5 +1,5 @@
 -- What stated rows mean.
-use Rattle.std.specs.Prelude.{◌≡◌, ℕ, ◌<◌, ◌≤◌, ◌↔◌, List, [], ◌∷◌, ◌++◌, length, ◌⊎◌, Bool, true, false, Option, Some, None}
+use Rattle.std.specs.Prelude.{◌≡◌, ℕ, ◌<◌, ◌≤◌, ◌↔◌, List, [], ◌∷◌, length, ◌⊎◌, Bool, true, false, Option, Some, None}
 use Rattle.std.proofs.Common.{refl, sym, ◌∙◌, ap, arith, inl, inr}
 use Rattle.hys_number.specs.Number.{Number}
 use Rattle.hys_number.specs.Ops.{◌+ₙ◌, ◌*ₙ◌, ◌-ₙ◌, neg, ◌≤ₙ◌, whole}
@@ -11,7 +11,7 @@ use Rattle.hys_lin.specs.declared.form.Term.{Term}
 use Rattle.hys_lin.specs.declared.form.Affine.{Affine}
 use Rattle.hys_lin.specs.declared.form.Row.{Row}
 use Rattle.hys_lin.specs.declared.form.Interval.{Interval}
-use Rattle.hys_lin.specs.Sums.{Assignment, sum_of, value, Holds, HoldAll, Within}
+use Rattle.hys_lin.specs.Sums.{Assignment, sum_of, value, HoldAll, Within}
 use Rattle.hys_lin.specs.Bits.{bit, IsBit}
 use Rattle.hys_guard.specs.Bits.{chosen}
 use Rattle.hys_guard.specs.Numbers.{own_term, opposite_term}

@@ -1,5 +1,5 @@
 -- Rows that are the stated ones: what they say, and rows behind rows.
-use Rattle.std.specs.Prelude.{◌≡◌, ℕ, ◌↔◌, List, [], ◌∷◌, ◌++◌}
+use Rattle.std.specs.Prelude.{ℕ, ◌↔◌, List, [], ◌∷◌, ◌++◌}
 use Rattle.hys_number.specs.Ops.{◌≤ₙ◌}
 use Rattle.hys_lin.specs.declared.form.Row.{Row}
 use Rattle.hys_lin.specs.Sums.{Assignment, Holds, HoldAll}

@@ -3,11 +3,11 @@ use Rattle.std.specs.Prelude.{◌≡◌, ℕ, zero, suc, ◌+◌, ◌*◌, ◌<�
 use Rattle.std.proofs.Common.{refl, sym, ◌∙◌, ap, arith, subst, ⊎_elim, length-append, append_assoc}
 use Rattle.hys_number.specs.Number.{Number, make}
 use Rattle.hys_number.specs.Gcd.{gcd}
-use Rattle.hys_number.specs.Ops.{◌+ₙ◌, ◌≤ₙ◌, whole}
+use Rattle.hys_number.specs.Ops.{◌+ₙ◌, whole}
 use Rattle.hys_number.proofs.Field.{add_zero}
 use Rattle.hys_number.proofs.Ring.{by_ring, v as var, k as num, ◌⊕◌}
 use Rattle.hys_lin.specs.declared.form.Row.{Row}
-use Rattle.hys_lin.specs.Sums.{Assignment, Holds, HoldAll, EachColumn}
+use Rattle.hys_lin.specs.Sums.{Assignment, HoldAll}
 use Rattle.hys_prog.specs.declared.formula.Connective.{Connective}
 use Rattle.hys_prog.specs.declared.formula.Connective.TheVariants.{And, Or, Iff, Then, From}
 use Rattle.hys_lin.specs.Bits.{bit, IsBit}
