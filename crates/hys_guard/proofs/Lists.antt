@@ -11,7 +11,8 @@ use Rattle.hys_lin.specs.Sums.{Assignment, sum_of, AreTerms, EachColumn}
 use Rattle.hys_lin.specs.declared.form.Affine.{Affine}
 use Rattle.hys_lin.specs.declared.form.Row.{Row}
 use Rattle.hys_lin.proofs.Lists.{each-append, each_more, terms-append, sum-append}
-use Rattle.hys_guard.specs.Numbers.{factor_at, constant_by, own_term, opposite_term}
+use Rattle.hys_lin.specs.Scaled.{coefficient}
+use Rattle.hys_guard.specs.Numbers.{constant_by, own_term, opposite_term}
 use Rattle.hys_guard.specs.Set.{Splits, Piece, Around, TakenOut, IsSet, negated, signed, join_by, unit_by, JoinedTerms, EachOwn}
 use Rattle.hys_lin.specs.Stated.{IsRow}
 use Rattle.hys_guard.specs.Stated.{bound_by, copied_by, guarded_by, turned_by, apart_by, term_value}
@@ -63,15 +64,15 @@ eqb_off d c h = grind (arith, tests)
 eqb_on : (d c : ℕ) → d ≡ c → eqb d c ≡ true
 eqb_on d c h = grind (arith, tests)
 
-pub factor_absent : (c : ℕ) (xs : List Term) → EachColumn (λ d. ¬ (d ≡ c)) xs → factor_at xs c ≡ whole 0
+pub factor_absent : (c : ℕ) (xs : List Term) → EachColumn (λ d. ¬ (d ≡ c)) xs → coefficient xs c ≡ whole 0
 factor_absent c [] h = refl
 factor_absent c (t ∷ ts) h = rw (eqb_off t.column c h.0) (factor_absent c ts h.1)
 
-pub factor-behind : (c : ℕ) (xs ys : List Term) → EachColumn (λ d. ¬ (d ≡ c)) xs → factor_at (xs ++ ys) c ≡ factor_at ys c
+pub factor-behind : (c : ℕ) (xs ys : List Term) → EachColumn (λ d. ¬ (d ≡ c)) xs → coefficient (xs ++ ys) c ≡ coefficient ys c
 factor-behind c [] ys h = refl
 factor-behind c (t ∷ ts) ys h = rw (eqb_off t.column c h.0) (factor-behind c ts ys h.1)
 
-factor_first : (c : ℕ) (t : Term) (ts : List Term) → t.column ≡ c → factor_at (t ∷ ts) c ≡ t.factor
+factor_first : (c : ℕ) (t : Term) (ts : List Term) → t.column ≡ c → coefficient (t ∷ ts) c ≡ t.factor
 factor_first c t ts e = rw (eqb_on t.column c e) refl
 
 below_not : (c : ℕ) (xs : List Term) → EachColumn (λ d. d < c) xs → EachColumn (λ d. ¬ (d ≡ c)) xs
@@ -81,10 +82,10 @@ above_not : (c : ℕ) (xs : List Term) → EachColumn (λ d. c < d) xs → EachC
 above_not c xs h = each_more (λ d. c < d) (λ d. ¬ (d ≡ c)) xs (λ d p e. omega arith) h
 
 -- the factor at the column of terms in three parts
-factor_around : (c : ℕ) (a : Number) (before after ts : List Term) → Around c a before after ts → factor_at ts c ≡ a
+factor_around : (c : ℕ) (a : Number) (before after ts : List Term) → Around c a before after ts → coefficient ts c ≡ a
 factor_around c a before after ts h = rw (h.whole_is) (factor-behind c before (h.here ++ after) (below_not c before h.below) ∙ piece h.here h.piece)
   where
-    piece : (here : List Term) → Piece c a here → factor_at (here ++ after) c ≡ a
+    piece : (here : List Term) → Piece c a here → coefficient (here ++ after) c ≡ a
     piece here (inl p) = rw (p.1) (factor_absent c after (above_not c after h.above) ∙ sym p.0)
     piece here (inr p) = rw (p.1) (factor_first c (record { column = c; factor = a }) after refl)
 
@@ -100,7 +101,7 @@ take_length (suc p) [] l = absurd (omega arith)
 take_length (suc p) (x ∷ xs) l = ap suc (take_length p xs (omega arith))
 
 pub found_out : (c p : ℕ) (xs new : List Term) (t : Term) → AreTerms xs → Splits c p xs → p < length xs → t ≡ get_or xs p t → t.column ≡ c →
-    new ≡ take p xs ++ drop (suc p) xs → TakenOut c p (factor_at xs c) xs new
+    new ≡ take p xs ++ drop (suc p) xs → TakenOut c p (coefficient xs c) xs new
 found_out c p xs new t h s l e m i = record { before = take p xs; after = drop (suc p) xs; was = around; is = i; place = take_length p xs s.within }
   where
     parts : xs ≡ take p xs ++ (t ∷ drop (suc p) xs)
@@ -115,22 +116,22 @@ found_out c p xs new t h s l e m i = record { before = take p xs; after = drop (
     own : Around c t.factor (take p xs) (drop (suc p) xs) xs
     own = record { here = t ∷ []; piece = inr (rest.0, ap (λ (y : ℕ). record { column = y; factor = t.factor } ∷ []) m); whole_is = parts; below = s.before; above = behind }
 
-    around : Around c (factor_at xs c) (take p xs) (drop (suc p) xs) xs
+    around : Around c (coefficient xs c) (take p xs) (drop (suc p) xs) xs
     around = rw (factor_around c t.factor (take p xs) (drop (suc p) xs) xs own) own
 
-pub none_out : (c p : ℕ) (xs : List Term) → Splits c p xs → EachColumn (λ d. c < d) (drop p xs) → TakenOut c p (factor_at xs c) xs xs
+pub none_out : (c p : ℕ) (xs : List Term) → Splits c p xs → EachColumn (λ d. c < d) (drop p xs) → TakenOut c p (coefficient xs c) xs xs
 none_out c p xs s m = record { before = take p xs; after = drop p xs; was = around; is = sym (take-append-drop p xs); place = take_length p xs s.within }
   where
     own : Around c (whole 0) (take p xs) (drop p xs) xs
     own = record { here = []; piece = inl (refl, refl); whole_is = sym (take-append-drop p xs); below = s.before; above = m }
 
-    around : Around c (factor_at xs c) (take p xs) (drop p xs) xs
+    around : Around c (coefficient xs c) (take p xs) (drop p xs) xs
     around = rw (factor_around c (whole 0) (take p xs) (drop p xs) xs own) own
 
-pub past_out : (c p : ℕ) (xs : List Term) → Splits c p xs → length xs ≤ p → TakenOut c p (factor_at xs c) xs xs
+pub past_out : (c p : ℕ) (xs : List Term) → Splits c p xs → length xs ≤ p → TakenOut c p (coefficient xs c) xs xs
 past_out c p xs s l = none_out c p xs s (rw (none_left p xs l) tt)
 
-pub other_out : (c p : ℕ) (xs : List Term) (t : Term) → AreTerms xs → Splits c p xs → p < length xs → t ≡ get_or xs p t → ¬ (t.column ≡ c) → TakenOut c p (factor_at xs c) xs xs
+pub other_out : (c p : ℕ) (xs : List Term) (t : Term) → AreTerms xs → Splits c p xs → p < length xs → t ≡ get_or xs p t → ¬ (t.column ≡ c) → TakenOut c p (coefficient xs c) xs xs
 other_out c p xs t h s l e n = none_out c p xs s (rw (dropped p xs t l e) (above, each_more (λ d. t.column < d) (λ d. c < d) (drop (suc p) xs) (λ d q. let a : c < t.column = above in omega arith) rest.1))
   where
     dropped : (i : ℕ) (ys : List Term) (u : Term) → i < length ys → u ≡ get_or ys i u → drop i ys ≡ u ∷ drop (suc i) ys
@@ -227,11 +228,11 @@ pub negated_sum : (ts : List Term) (w : Assignment) → sum_of (signed Upper ts)
 negated_sum [] w = by_ring [] (k 0) (minus (k 0)) refl
 negated_sum (t ∷ ts) w = rw (negated_sum ts w) (by_ring (t.factor ∷ w t.column ∷ sum_of ts w ∷ []) (minus (v 0) ⊗ v 1 ⊕ minus (v 2)) (minus (v 0 ⊗ v 1 ⊕ v 2)) refl)
 
-negated_factor : (ts : List Term) (c : ℕ) → factor_at (signed Upper ts) c ≡ neg (factor_at ts c)
+negated_factor : (ts : List Term) (c : ℕ) → coefficient (signed Upper ts) c ≡ neg (coefficient ts c)
 negated_factor [] c = by_ring [] (k 0) (minus (k 0)) refl
 negated_factor (t ∷ ts) c = go (eqb t.column c) (negated_factor ts c)
   where
-    go : (b : Bool) → factor_at (negated ts) c ≡ neg (factor_at ts c) → cond b (neg t.factor) (factor_at (negated ts) c) ≡ neg (cond b t.factor (factor_at ts c))
+    go : (b : Bool) → coefficient (negated ts) c ≡ neg (coefficient ts c) → cond b (neg t.factor) (coefficient (negated ts) c) ≡ neg (cond b t.factor (coefficient ts c))
     go true h = refl
     go false h = h
 
@@ -248,9 +249,9 @@ signed_sum : (s : Side) (g : List Term) (w : Assignment) (z : Number) → sum_of
 signed_sum Upper g w z = rw (negated_sum g w) (by_ring (sum_of g w ∷ z ∷ []) (minus (v 0) ⊕ k 1 ⊗ v 1) (v 1 ⊖ v 0) refl)
 signed_sum Lower g w z = by_ring (sum_of g w ∷ z ∷ []) (v 0 ⊕ minus (k 1) ⊗ v 1) (v 0 ⊖ v 1) refl
 
-shared : (s : Side) (p : Number) (g : List Term) (c : ℕ) → join_by s p (factor_at g c) -ₙ factor_at (signed s g) c ≡ p
-shared Upper p g c = rw (negated_factor g c) (by_ring (p ∷ factor_at g c ∷ []) (v 0 ⊖ v 1 ⊖ minus (v 1)) (v 0) refl)
-shared Lower p g c = by_ring (p ∷ factor_at g c ∷ []) (v 0 ⊕ v 1 ⊖ v 1) (v 0) refl
+shared : (s : Side) (p : Number) (g : List Term) (c : ℕ) → join_by s p (coefficient g c) -ₙ coefficient (signed s g) c ≡ p
+shared Upper p g c = rw (negated_factor g c) (by_ring (p ∷ coefficient g c ∷ []) (v 0 ⊖ v 1 ⊖ minus (v 1)) (v 0) refl)
+shared Lower p g c = by_ring (p ∷ coefficient g c ∷ []) (v 0 ⊕ v 1 ⊖ v 1) (v 0) refl
 
 joined_sum : (s : Side) (a : Number) (t : Option Term) (g new : List Term) (w : Assignment) → JoinedTerms s a t g new → sum_of new w ≡ sum_of (signed s g) w +ₙ a *ₙ term_value t w
 joined_sum s a None g new w h = rw h (by_ring (sum_of (signed s g) w ∷ a ∷ []) (v 0) (v 0 ⊕ v 1 ⊗ k 0) refl)
@@ -259,14 +260,14 @@ joined_sum s a (Some t) g new w h = set_sum t.column _ _ (signed s g) new w h
     ∙ by_ring (sum_of (signed s g) w ∷ a ∷ t.factor ∷ w t.column ∷ []) (v 0 ⊕ v 1 ⊗ v 2 ⊗ v 3) (v 0 ⊕ v 1 ⊗ (v 2 ⊗ v 3)) refl
 
 -- a new column's factor in terms that don't name it
-pub new_sum : (c : ℕ) (a : Number) (old new : List Term) (w : Assignment) → EachColumn (λ d. ¬ (d ≡ c)) old → IsSet c (factor_at old c) a old new → sum_of new w ≡ sum_of old w +ₙ a *ₙ w c
-new_sum c a old new w n h = set_sum c (factor_at old c) a old new w h
+pub new_sum : (c : ℕ) (a : Number) (old new : List Term) (w : Assignment) → EachColumn (λ d. ¬ (d ≡ c)) old → IsSet c (coefficient old c) a old new → sum_of new w ≡ sum_of old w +ₙ a *ₙ w c
+new_sum c a old new w n h = set_sum c (coefficient old c) a old new w h
     ∙ ap (λ x. sum_of old w +ₙ (a -ₙ x) *ₙ w c) (factor_absent c old n)
     ∙ by_ring (sum_of old w ∷ a ∷ w c ∷ []) (v 0 ⊕ (v 1 ⊖ k 0) ⊗ v 2) (v 0 ⊕ v 1 ⊗ v 2) refl
 
 -- the row that bounds a column by a form and a literal
 pub bound_row : (s : Side) (a p : Number) (t : Option Term) (g : Affine) (z : ℕ) (mid : List Term) (r : Row) →
-    AreTerms g.terms → EachColumn (λ d. ¬ (d ≡ z)) g.terms → EachOwn (λ d. ¬ (d ≡ z)) t → JoinedTerms s a t g.terms mid → IsSet z (factor_at mid z) (unit_by s) mid r.terms →
+    AreTerms g.terms → EachColumn (λ d. ¬ (d ≡ z)) g.terms → EachOwn (λ d. ¬ (d ≡ z)) t → JoinedTerms s a t g.terms mid → IsSet z (coefficient mid z) (unit_by s) mid r.terms →
     r.bound ≡ constant_by s g.constant -ₙ a *ₙ p → r.eq ≡ false → IsRow r (bound_by s a p t g z)
 bound_row s a p t g z mid r h n o j i b q = record {
   terms = set_terms z _ _ mid r.terms i (joined_terms s a t g.terms mid j h);
@@ -279,7 +280,7 @@ bound_row s a p t g z mid r h n o j i b q = record {
 }
 
 pub copied_row : (s : Side) (g : Affine) (z : ℕ) (mid : List Term) (r : Row) → AreTerms g.terms → EachColumn (λ d. ¬ (d ≡ z)) g.terms → mid ≡ signed s g.terms →
-    IsSet z (factor_at mid z) (unit_by s) mid r.terms → r.bound ≡ constant_by s g.constant → r.eq ≡ false → IsRow r (copied_by s g z)
+    IsSet z (coefficient mid z) (unit_by s) mid r.terms → r.bound ≡ constant_by s g.constant → r.eq ≡ false → IsRow r (copied_by s g z)
 copied_row s g z mid r h n j i b q = record {
   terms = set_terms z _ _ mid r.terms i (rw j (signed_terms s g.terms h));
   sums = λ w. new_sum z (unit_by s) mid r.terms w (rw j (signed_each (λ d. ¬ (d ≡ z)) s g.terms n)) i ∙ ap (λ (x : List Term). sum_of x w +ₙ unit_by s *ₙ w z) j ∙ signed_sum s g.terms w (w z);
@@ -293,7 +294,7 @@ turned_sum Lower g w = refl
 
 -- the row of signed terms with one more column
 pub guarded_row : (s : Side) (g : Affine) (a b : Number) (z : ℕ) (mid : List Term) (r : Row) → AreTerms g.terms → EachColumn (λ d. ¬ (d ≡ z)) g.terms → mid ≡ signed s g.terms →
-    IsSet z (factor_at mid z) a mid r.terms → r.bound ≡ b → r.eq ≡ false → IsRow r (guarded_by s g a z b)
+    IsSet z (coefficient mid z) a mid r.terms → r.bound ≡ b → r.eq ≡ false → IsRow r (guarded_by s g a z b)
 guarded_row s g a b z mid r h n j i e q = record {
   terms = set_terms z _ _ mid r.terms i (rw j (signed_terms s g.terms h));
   sums = λ w. new_sum z a mid r.terms w (rw j (signed_each (λ d. ¬ (d ≡ z)) s g.terms n)) i ∙ ap (λ (x : List Term). sum_of x w +ₙ a *ₙ w z) j ∙ ap (λ x. x +ₙ a *ₙ w z) (turned_sum s g.terms w);

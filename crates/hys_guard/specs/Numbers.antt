@@ -1,7 +1,6 @@
 -- The numbers that the rows of a guard and of a choice are made of, each with the operation that
 -- gives it, in the order in which they are looked for.
-use Rattle.std.specs.Prelude.{◌≡◌, ℕ, List, [], ◌∷◌, ◌++◌, Option, Some, None, Result, Ok, Err, cond}
-use Rattle.std.proofs.Common.{eqb}
+use Rattle.std.specs.Prelude.{◌≡◌, List, [], ◌∷◌, ◌++◌, Option, Some, None, Result, Ok, Err}
 use Rattle.hys_number.specs.Number.{Number}
 use Rattle.hys_number.specs.Ops.{◌*ₙ◌, ◌-ₙ◌, neg, whole}
 use Rattle.hys_lin.specs.declared.form.Term.{Term}
@@ -9,6 +8,7 @@ use Rattle.hys_lin.specs.declared.form.Affine.{Affine}
 use Rattle.hys_lin.specs.declared.form.Interval.{Interval}
 use Rattle.hys_lin.specs.declared.lost.Lost.{Lost as Operation}
 use Rattle.hys_lin.specs.Operations.{first_lost, plus, minus, times}
+use Rattle.hys_lin.specs.Scaled.{coefficient}
 use Rattle.hys_guard.specs.declared.fault.GuardFault.{GuardFault}
 use Rattle.hys_guard.specs.declared.fault.GuardFault.TheVariants.{Lost, Memory}
 use Rattle.hys_guard.specs.declared.terms.Side.{Side}
@@ -27,11 +27,6 @@ abbrev pub guard_numbers : Affine → Interval → Number → List Operation
 guard_numbers f i e = minus i.low e ∷ minus i.high f.constant ∷ minus f.constant e ∷ []
 
 -- ---- a choice
--- the factor of the column in the terms, 0 where it isn't there
-abbrev pub factor_at : List Term → ℕ → Number
-factor_at [] c = whole 0
-factor_at (t ∷ ts) c = cond (eqb t.column c) t.factor (factor_at ts c)
-
 -- the literal's own term, where it has one
 abbrev pub own_term : List Term → Option Term
 own_term [] = None
@@ -56,7 +51,7 @@ constant_by Lower q = neg q
 -- the factor at the literal's column
 abbrev pub joins : Side → Number → Option Term → Affine → List Operation
 joins s a None g = []
-joins s a (Some t) g = times a t.factor ∷ joined s (a *ₙ t.factor) (factor_at g.terms t.column) ∷ []
+joins s a (Some t) g = times a t.factor ∷ joined s (a *ₙ t.factor) (coefficient g.terms t.column) ∷ []
 
 -- the numbers of one row: big factor a, literal k + t, form g
 abbrev pub row_numbers : Side → Number → Number → Option Term → Affine → List Operation

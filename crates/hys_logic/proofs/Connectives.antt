@@ -2,7 +2,7 @@
 use Rattle.std.specs.Prelude.{◌≡◌, ℕ, ◌<◌, ◌↔◌, [], ◌∷◌, Bool, true, false, ◌&&◌, ◌||◌, not, ℤ, pos, negsuc}
 use Rattle.std.proofs.Common.{refl, sym, ◌∙◌, ap, ap₂, arith, subst}
 use Rattle.hys_number.specs.Number.{Number}
-use Rattle.hys_number.specs.Ops.{◌+ₙ◌, ◌-ₙ◌, neg, ◌≤ₙ◌, whole}
+use Rattle.hys_number.specs.Ops.{◌+ₙ◌, ◌-ₙ◌, neg, ◌≤ₙ◌, whole, int}
 use Rattle.hys_number.proofs.Laws.{whole-ratio}
 use Rattle.hys_number.proofs.Field.{neg-add}
 use Rattle.hys_number.proofs.Scale.{overs, common6, common6_of}
@@ -17,7 +17,7 @@ use Rattle.hys_logic.specs.declared.literal.Literal.TheVariants.{Fixed, Column}
 use Rattle.hys_logic.specs.declared.row.Sign.{Sign}
 use Rattle.hys_logic.specs.declared.row.Sign.TheVariants.{Plus, Minus}
 use Rattle.hys_logic.specs.Literals.{column_part, constant_part, number_of, opposite}
-use Rattle.hys_logic.specs.Rows.{signed, int, row_by, connective_stated}
+use Rattle.hys_logic.specs.Rows.{signed, row_by, connective_stated}
 use Rattle.hys_lin.specs.Stated.{HoldStated}
 use Rattle.hys_logic.proofs.Smalls.{int-whole, int-minus}
 

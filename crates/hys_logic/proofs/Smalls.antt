@@ -3,17 +3,17 @@ use Rattle.std.specs.Prelude.{◌≡◌, ℕ, ◌<◌, ℤ, pos, negsuc, ◌-ℤ
 use Rattle.std.proofs.Common.{refl, arith}
 use borrow.Author.Differences.{ints, up, down, neg_is}
 use Rattle.hys_number.specs.Number.{make}
-use Rattle.hys_number.specs.Ops.{◌-ₙ◌, neg, whole}
+use Rattle.hys_number.specs.Ops.{◌-ₙ◌, neg, whole, int}
 use Rattle.hys_number.proofs.Ratio.{make_is}
 use Rattle.hys_number.proofs.Laws.{ratio, ratio_of_is, whole-ratio}
 use Rattle.hys_number.proofs.Scale.{overs}
-use Rattle.hys_logic.specs.Rows.{int}
 
 int-ratio : (z : ℤ) → int z ≡ ratio (up z) (down z) 1
+unfolding int
 int-ratio z = ratio_of_is (make z 1) (up z) (down z) 1 (omega arith) (make_is z 1 (omega arith))
 
 pub int-whole : (k : ℕ) → int (pos k) ≡ whole k
-unfolding whole
+unfolding int whole
 int-whole k = refl
 
 pub int-minus : int (negsuc 0) ≡ neg (whole 1)

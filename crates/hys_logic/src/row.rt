@@ -1,11 +1,11 @@
 ghost use Rattle.std.specs.Prelude.{◌≡◌, IfOk, ℕ, ◌≤◌, ◌<◌, unsigned_abs, false, ◌∷◌, [], ◌+◌, ◌-ℤ◌};
-ghost use Rattle.hys_number.specs.Ops.{whole};
+ghost use Rattle.hys_number.specs.Ops.{whole, int};
 ghost use Rattle.hys_lin.specs.Sums.{EachColumn};
 ghost use Rattle.hys_lin.specs.Bits.{bit as bit_of};
 ghost use Rattle.hys_logic.specs.declared.literal.Literal.TheVariants.{Fixed};
 ghost use Rattle.hys_logic.specs.declared.row.Sign.TheVariants.{Plus};
 ghost use Rattle.hys_logic.specs.Literals.{LiteralBelow};
-ghost use Rattle.hys_logic.specs.Rows.{signed, row_by, int, turned, IsSum, AreOf};
+ghost use Rattle.hys_logic.specs.Rows.{signed, row_by, turned, IsSum, AreOf};
 ghost use Rattle.hys_lin.specs.Stated.{IsRow};
 
 use crate::literal::Literal;

@@ -1,5 +1,5 @@
 ghost use Rattle.std.specs.Prelude.{◌≡◌, ◌≤◌, unsigned_abs};
-ghost use Rattle.hys_logic.specs.Rows.{int};
+ghost use Rattle.hys_number.specs.Ops.{int};
 ghost use Rattle.hys_lin.specs.Bits.{bit as bit_of};
 
 use hys_frac::Frac;
