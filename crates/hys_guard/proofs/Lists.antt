@@ -4,23 +4,22 @@ use Rattle.std.proofs.Common.{get_or, take, drop, refl, sym, ◌∙◌, ap, arit
 use Rattle.std.proofs.lemmas.List.{take_more, take_at, drop_at, take-append-drop}
 use Rattle.hys_number.specs.Number.{Number}
 use Rattle.hys_number.specs.Ops.{◌+ₙ◌, ◌*ₙ◌, ◌-ₙ◌, neg, whole}
-use Rattle.hys_number.proofs.Field.{add_assoc, add_zero, neg_neg}
+use Rattle.hys_number.proofs.Field.{add_zero, neg_neg}
 use Rattle.hys_number.proofs.Ring.{by_ring, v, k, minus, ◌⊕◌, ◌⊗◌, ◌⊖◌}
 use Rattle.hys_lin.specs.declared.form.Term.{Term}
 use Rattle.hys_lin.specs.Sums.{Assignment, sum_of, AreTerms, EachColumn}
 use Rattle.hys_lin.specs.declared.form.Affine.{Affine}
 use Rattle.hys_lin.specs.declared.form.Row.{Row}
-use Rattle.hys_guard.specs.Numbers.{factor_at, constant_by, own_term, opposite_term}
+use Rattle.hys_lin.proofs.Lists.{each-append, each_more, terms-append, sum-append}
+use Rattle.hys_lin.specs.Scaled.{coefficient}
+use Rattle.hys_guard.specs.Numbers.{constant_by, own_term, opposite_term}
 use Rattle.hys_guard.specs.Set.{Splits, Piece, Around, TakenOut, IsSet, negated, signed, join_by, unit_by, JoinedTerms, EachOwn}
-use Rattle.hys_guard.specs.Stated.{IsRow, bound_by, copied_by, guarded_by, turned_by, apart_by, term_value}
+use Rattle.hys_lin.specs.Stated.{IsRow}
+use Rattle.hys_guard.specs.Stated.{bound_by, copied_by, guarded_by, turned_by, apart_by, term_value}
 use Rattle.hys_guard.specs.declared.terms.Side.{Side}
 use Rattle.hys_guard.specs.declared.terms.Side.TheVariants.{Upper, Lower}
 
 -- ---- a property of each column
-pub each-append : (P : ℕ → Type 0) (xs ys : List Term) → EachColumn P xs → EachColumn P ys → EachColumn P (xs ++ ys)
-each-append P [] ys h i = i
-each-append P (t ∷ ts) ys h i = (h.0, each-append P ts ys h.1 i)
-
 pub each_left : (P : ℕ → Type 0) (xs ys : List Term) → EachColumn P (xs ++ ys) → EachColumn P xs
 each_left P [] ys h = tt
 each_left P (t ∷ ts) ys h = (h.0, each_left P ts ys h.1)
@@ -28,10 +27,6 @@ each_left P (t ∷ ts) ys h = (h.0, each_left P ts ys h.1)
 pub each_right : (P : ℕ → Type 0) (xs ys : List Term) → EachColumn P (xs ++ ys) → EachColumn P ys
 each_right P [] ys h = h
 each_right P (t ∷ ts) ys h = each_right P ts ys h.1
-
-pub each_more : (P Q : ℕ → Type 0) (xs : List Term) → ((c : ℕ) → P c → Q c) → EachColumn P xs → EachColumn Q xs
-each_more P Q [] f h = tt
-each_more P Q (t ∷ ts) f h = (f t.column h.0, each_more P Q ts f h.1)
 
 -- ---- sorted terms
 pub terms_left : (xs ys : List Term) → AreTerms (xs ++ ys) → AreTerms xs
@@ -41,12 +36,6 @@ terms_left (t ∷ ts) ys h = (h.0, each_left (λ c. t.column < c) ts ys h.1, ter
 pub terms_right : (xs ys : List Term) → AreTerms (xs ++ ys) → AreTerms ys
 terms_right [] ys h = h
 terms_right (t ∷ ts) ys h = terms_right ts ys h.2
-
--- terms below a column before terms from it on
-pub terms-append : (c : ℕ) (xs ys : List Term) → AreTerms xs → AreTerms ys → EachColumn (λ d. d < c) xs → EachColumn (λ d. c ≤ d) ys → AreTerms (xs ++ ys)
-terms-append c [] ys h i l m = i
-terms-append c (t ∷ ts) ys h i l m =
-    (h.0, each-append (λ d. t.column < d) ts ys h.1 (each_more (λ d. c ≤ d) (λ d. t.column < d) ys (λ d q. let p : t.column < c = l.0 in omega arith) m), terms-append c ts ys h.2 i l.1 m)
 
 pub after_from : (c i : ℕ) (xs : List Term) (t : Term) → AreTerms xs → i < length xs → t ≡ get_or xs i t → c ≤ t.column → EachColumn (λ d. c ≤ d) (drop i xs)
 after_from c i [] t h l e m = absurd (omega arith)
@@ -75,15 +64,15 @@ eqb_off d c h = grind (arith, tests)
 eqb_on : (d c : ℕ) → d ≡ c → eqb d c ≡ true
 eqb_on d c h = grind (arith, tests)
 
-pub factor_absent : (c : ℕ) (xs : List Term) → EachColumn (λ d. ¬ (d ≡ c)) xs → factor_at xs c ≡ whole 0
+pub factor_absent : (c : ℕ) (xs : List Term) → EachColumn (λ d. ¬ (d ≡ c)) xs → coefficient xs c ≡ whole 0
 factor_absent c [] h = refl
 factor_absent c (t ∷ ts) h = rw (eqb_off t.column c h.0) (factor_absent c ts h.1)
 
-pub factor-behind : (c : ℕ) (xs ys : List Term) → EachColumn (λ d. ¬ (d ≡ c)) xs → factor_at (xs ++ ys) c ≡ factor_at ys c
+pub factor-behind : (c : ℕ) (xs ys : List Term) → EachColumn (λ d. ¬ (d ≡ c)) xs → coefficient (xs ++ ys) c ≡ coefficient ys c
 factor-behind c [] ys h = refl
 factor-behind c (t ∷ ts) ys h = rw (eqb_off t.column c h.0) (factor-behind c ts ys h.1)
 
-factor_first : (c : ℕ) (t : Term) (ts : List Term) → t.column ≡ c → factor_at (t ∷ ts) c ≡ t.factor
+factor_first : (c : ℕ) (t : Term) (ts : List Term) → t.column ≡ c → coefficient (t ∷ ts) c ≡ t.factor
 factor_first c t ts e = rw (eqb_on t.column c e) refl
 
 below_not : (c : ℕ) (xs : List Term) → EachColumn (λ d. d < c) xs → EachColumn (λ d. ¬ (d ≡ c)) xs
@@ -93,10 +82,10 @@ above_not : (c : ℕ) (xs : List Term) → EachColumn (λ d. c < d) xs → EachC
 above_not c xs h = each_more (λ d. c < d) (λ d. ¬ (d ≡ c)) xs (λ d p e. omega arith) h
 
 -- the factor at the column of terms in three parts
-factor_around : (c : ℕ) (a : Number) (before after ts : List Term) → Around c a before after ts → factor_at ts c ≡ a
+factor_around : (c : ℕ) (a : Number) (before after ts : List Term) → Around c a before after ts → coefficient ts c ≡ a
 factor_around c a before after ts h = rw (h.whole_is) (factor-behind c before (h.here ++ after) (below_not c before h.below) ∙ piece h.here h.piece)
   where
-    piece : (here : List Term) → Piece c a here → factor_at (here ++ after) c ≡ a
+    piece : (here : List Term) → Piece c a here → coefficient (here ++ after) c ≡ a
     piece here (inl p) = rw (p.1) (factor_absent c after (above_not c after h.above) ∙ sym p.0)
     piece here (inr p) = rw (p.1) (factor_first c (record { column = c; factor = a }) after refl)
 
@@ -112,7 +101,7 @@ take_length (suc p) [] l = absurd (omega arith)
 take_length (suc p) (x ∷ xs) l = ap suc (take_length p xs (omega arith))
 
 pub found_out : (c p : ℕ) (xs new : List Term) (t : Term) → AreTerms xs → Splits c p xs → p < length xs → t ≡ get_or xs p t → t.column ≡ c →
-    new ≡ take p xs ++ drop (suc p) xs → TakenOut c p (factor_at xs c) xs new
+    new ≡ take p xs ++ drop (suc p) xs → TakenOut c p (coefficient xs c) xs new
 found_out c p xs new t h s l e m i = record { before = take p xs; after = drop (suc p) xs; was = around; is = i; place = take_length p xs s.within }
   where
     parts : xs ≡ take p xs ++ (t ∷ drop (suc p) xs)
@@ -127,22 +116,22 @@ found_out c p xs new t h s l e m i = record { before = take p xs; after = drop (
     own : Around c t.factor (take p xs) (drop (suc p) xs) xs
     own = record { here = t ∷ []; piece = inr (rest.0, ap (λ (y : ℕ). record { column = y; factor = t.factor } ∷ []) m); whole_is = parts; below = s.before; above = behind }
 
-    around : Around c (factor_at xs c) (take p xs) (drop (suc p) xs) xs
+    around : Around c (coefficient xs c) (take p xs) (drop (suc p) xs) xs
     around = rw (factor_around c t.factor (take p xs) (drop (suc p) xs) xs own) own
 
-pub none_out : (c p : ℕ) (xs : List Term) → Splits c p xs → EachColumn (λ d. c < d) (drop p xs) → TakenOut c p (factor_at xs c) xs xs
+pub none_out : (c p : ℕ) (xs : List Term) → Splits c p xs → EachColumn (λ d. c < d) (drop p xs) → TakenOut c p (coefficient xs c) xs xs
 none_out c p xs s m = record { before = take p xs; after = drop p xs; was = around; is = sym (take-append-drop p xs); place = take_length p xs s.within }
   where
     own : Around c (whole 0) (take p xs) (drop p xs) xs
     own = record { here = []; piece = inl (refl, refl); whole_is = sym (take-append-drop p xs); below = s.before; above = m }
 
-    around : Around c (factor_at xs c) (take p xs) (drop p xs) xs
+    around : Around c (coefficient xs c) (take p xs) (drop p xs) xs
     around = rw (factor_around c (whole 0) (take p xs) (drop p xs) xs own) own
 
-pub past_out : (c p : ℕ) (xs : List Term) → Splits c p xs → length xs ≤ p → TakenOut c p (factor_at xs c) xs xs
+pub past_out : (c p : ℕ) (xs : List Term) → Splits c p xs → length xs ≤ p → TakenOut c p (coefficient xs c) xs xs
 past_out c p xs s l = none_out c p xs s (rw (none_left p xs l) tt)
 
-pub other_out : (c p : ℕ) (xs : List Term) (t : Term) → AreTerms xs → Splits c p xs → p < length xs → t ≡ get_or xs p t → ¬ (t.column ≡ c) → TakenOut c p (factor_at xs c) xs xs
+pub other_out : (c p : ℕ) (xs : List Term) (t : Term) → AreTerms xs → Splits c p xs → p < length xs → t ≡ get_or xs p t → ¬ (t.column ≡ c) → TakenOut c p (coefficient xs c) xs xs
 other_out c p xs t h s l e n = none_out c p xs s (rw (dropped p xs t l e) (above, each_more (λ d. t.column < d) (λ d. c < d) (drop (suc p) xs) (λ d q. let a : c < t.column = above in omega arith) rest.1))
   where
     dropped : (i : ℕ) (ys : List Term) (u : Term) → i < length ys → u ≡ get_or ys i u → drop i ys ≡ u ∷ drop (suc i) ys
@@ -177,10 +166,6 @@ pub negated_more : (i : ℕ) (xs done : List Term) (t : Term) → i < length xs 
 negated_more i xs done t l e h = rw (take_more xs i t l, ← e, negated-append (take i xs) (t ∷ []), h) refl
 
 -- ---- what setting a factor keeps and changes
-pub sum-append : (xs ys : List Term) (w : Assignment) → sum_of (xs ++ ys) w ≡ sum_of xs w +ₙ sum_of ys w
-sum-append [] ys w = by_ring (sum_of ys w ∷ []) (v 0) (k 0 ⊕ v 0) refl
-sum-append (t ∷ ts) ys w = rw (sum-append ts ys w) (sym (add_assoc (t.factor *ₙ w t.column) (sum_of ts w) (sum_of ys w)))
-
 piece_sum : (c : ℕ) (a : Number) (here : List Term) (w : Assignment) → Piece c a here → sum_of here w ≡ a *ₙ w c
 piece_sum c a here w (inl p) = rw (p.1, p.0) (by_ring (w c ∷ []) (k 0) (k 0 ⊗ v 0) refl)
 piece_sum c a here w (inr p) = rw (p.1) (add_zero (a *ₙ w c))
@@ -243,11 +228,11 @@ pub negated_sum : (ts : List Term) (w : Assignment) → sum_of (signed Upper ts)
 negated_sum [] w = by_ring [] (k 0) (minus (k 0)) refl
 negated_sum (t ∷ ts) w = rw (negated_sum ts w) (by_ring (t.factor ∷ w t.column ∷ sum_of ts w ∷ []) (minus (v 0) ⊗ v 1 ⊕ minus (v 2)) (minus (v 0 ⊗ v 1 ⊕ v 2)) refl)
 
-negated_factor : (ts : List Term) (c : ℕ) → factor_at (signed Upper ts) c ≡ neg (factor_at ts c)
+negated_factor : (ts : List Term) (c : ℕ) → coefficient (signed Upper ts) c ≡ neg (coefficient ts c)
 negated_factor [] c = by_ring [] (k 0) (minus (k 0)) refl
 negated_factor (t ∷ ts) c = go (eqb t.column c) (negated_factor ts c)
   where
-    go : (b : Bool) → factor_at (negated ts) c ≡ neg (factor_at ts c) → cond b (neg t.factor) (factor_at (negated ts) c) ≡ neg (cond b t.factor (factor_at ts c))
+    go : (b : Bool) → coefficient (negated ts) c ≡ neg (coefficient ts c) → cond b (neg t.factor) (coefficient (negated ts) c) ≡ neg (cond b t.factor (coefficient ts c))
     go true h = refl
     go false h = h
 
@@ -264,9 +249,9 @@ signed_sum : (s : Side) (g : List Term) (w : Assignment) (z : Number) → sum_of
 signed_sum Upper g w z = rw (negated_sum g w) (by_ring (sum_of g w ∷ z ∷ []) (minus (v 0) ⊕ k 1 ⊗ v 1) (v 1 ⊖ v 0) refl)
 signed_sum Lower g w z = by_ring (sum_of g w ∷ z ∷ []) (v 0 ⊕ minus (k 1) ⊗ v 1) (v 0 ⊖ v 1) refl
 
-shared : (s : Side) (p : Number) (g : List Term) (c : ℕ) → join_by s p (factor_at g c) -ₙ factor_at (signed s g) c ≡ p
-shared Upper p g c = rw (negated_factor g c) (by_ring (p ∷ factor_at g c ∷ []) (v 0 ⊖ v 1 ⊖ minus (v 1)) (v 0) refl)
-shared Lower p g c = by_ring (p ∷ factor_at g c ∷ []) (v 0 ⊕ v 1 ⊖ v 1) (v 0) refl
+shared : (s : Side) (p : Number) (g : List Term) (c : ℕ) → join_by s p (coefficient g c) -ₙ coefficient (signed s g) c ≡ p
+shared Upper p g c = rw (negated_factor g c) (by_ring (p ∷ coefficient g c ∷ []) (v 0 ⊖ v 1 ⊖ minus (v 1)) (v 0) refl)
+shared Lower p g c = by_ring (p ∷ coefficient g c ∷ []) (v 0 ⊕ v 1 ⊖ v 1) (v 0) refl
 
 joined_sum : (s : Side) (a : Number) (t : Option Term) (g new : List Term) (w : Assignment) → JoinedTerms s a t g new → sum_of new w ≡ sum_of (signed s g) w +ₙ a *ₙ term_value t w
 joined_sum s a None g new w h = rw h (by_ring (sum_of (signed s g) w ∷ a ∷ []) (v 0) (v 0 ⊕ v 1 ⊗ k 0) refl)
@@ -275,14 +260,14 @@ joined_sum s a (Some t) g new w h = set_sum t.column _ _ (signed s g) new w h
     ∙ by_ring (sum_of (signed s g) w ∷ a ∷ t.factor ∷ w t.column ∷ []) (v 0 ⊕ v 1 ⊗ v 2 ⊗ v 3) (v 0 ⊕ v 1 ⊗ (v 2 ⊗ v 3)) refl
 
 -- a new column's factor in terms that don't name it
-pub new_sum : (c : ℕ) (a : Number) (old new : List Term) (w : Assignment) → EachColumn (λ d. ¬ (d ≡ c)) old → IsSet c (factor_at old c) a old new → sum_of new w ≡ sum_of old w +ₙ a *ₙ w c
-new_sum c a old new w n h = set_sum c (factor_at old c) a old new w h
+pub new_sum : (c : ℕ) (a : Number) (old new : List Term) (w : Assignment) → EachColumn (λ d. ¬ (d ≡ c)) old → IsSet c (coefficient old c) a old new → sum_of new w ≡ sum_of old w +ₙ a *ₙ w c
+new_sum c a old new w n h = set_sum c (coefficient old c) a old new w h
     ∙ ap (λ x. sum_of old w +ₙ (a -ₙ x) *ₙ w c) (factor_absent c old n)
     ∙ by_ring (sum_of old w ∷ a ∷ w c ∷ []) (v 0 ⊕ (v 1 ⊖ k 0) ⊗ v 2) (v 0 ⊕ v 1 ⊗ v 2) refl
 
 -- the row that bounds a column by a form and a literal
 pub bound_row : (s : Side) (a p : Number) (t : Option Term) (g : Affine) (z : ℕ) (mid : List Term) (r : Row) →
-    AreTerms g.terms → EachColumn (λ d. ¬ (d ≡ z)) g.terms → EachOwn (λ d. ¬ (d ≡ z)) t → JoinedTerms s a t g.terms mid → IsSet z (factor_at mid z) (unit_by s) mid r.terms →
+    AreTerms g.terms → EachColumn (λ d. ¬ (d ≡ z)) g.terms → EachOwn (λ d. ¬ (d ≡ z)) t → JoinedTerms s a t g.terms mid → IsSet z (coefficient mid z) (unit_by s) mid r.terms →
     r.bound ≡ constant_by s g.constant -ₙ a *ₙ p → r.eq ≡ false → IsRow r (bound_by s a p t g z)
 bound_row s a p t g z mid r h n o j i b q = record {
   terms = set_terms z _ _ mid r.terms i (joined_terms s a t g.terms mid j h);
@@ -295,7 +280,7 @@ bound_row s a p t g z mid r h n o j i b q = record {
 }
 
 pub copied_row : (s : Side) (g : Affine) (z : ℕ) (mid : List Term) (r : Row) → AreTerms g.terms → EachColumn (λ d. ¬ (d ≡ z)) g.terms → mid ≡ signed s g.terms →
-    IsSet z (factor_at mid z) (unit_by s) mid r.terms → r.bound ≡ constant_by s g.constant → r.eq ≡ false → IsRow r (copied_by s g z)
+    IsSet z (coefficient mid z) (unit_by s) mid r.terms → r.bound ≡ constant_by s g.constant → r.eq ≡ false → IsRow r (copied_by s g z)
 copied_row s g z mid r h n j i b q = record {
   terms = set_terms z _ _ mid r.terms i (rw j (signed_terms s g.terms h));
   sums = λ w. new_sum z (unit_by s) mid r.terms w (rw j (signed_each (λ d. ¬ (d ≡ z)) s g.terms n)) i ∙ ap (λ (x : List Term). sum_of x w +ₙ unit_by s *ₙ w z) j ∙ signed_sum s g.terms w (w z);
@@ -309,7 +294,7 @@ turned_sum Lower g w = refl
 
 -- the row of signed terms with one more column
 pub guarded_row : (s : Side) (g : Affine) (a b : Number) (z : ℕ) (mid : List Term) (r : Row) → AreTerms g.terms → EachColumn (λ d. ¬ (d ≡ z)) g.terms → mid ≡ signed s g.terms →
-    IsSet z (factor_at mid z) a mid r.terms → r.bound ≡ b → r.eq ≡ false → IsRow r (guarded_by s g a z b)
+    IsSet z (coefficient mid z) a mid r.terms → r.bound ≡ b → r.eq ≡ false → IsRow r (guarded_by s g a z b)
 guarded_row s g a b z mid r h n j i e q = record {
   terms = set_terms z _ _ mid r.terms i (rw j (signed_terms s g.terms h));
   sums = λ w. new_sum z a mid r.terms w (rw j (signed_each (λ d. ¬ (d ≡ z)) s g.terms n)) i ∙ ap (λ (x : List Term). sum_of x w +ₙ a *ₙ w z) j ∙ ap (λ x. x +ₙ a *ₙ w z) (turned_sum s g.terms w);

@@ -1,5 +1,5 @@
 -- What stated rows mean.
-use Rattle.std.specs.Prelude.{◌≡◌, ℕ, ◌<◌, ◌≤◌, ◌↔◌, List, [], ◌∷◌, ◌++◌, length, ◌⊎◌, Bool, true, false, Option, Some, None}
+use Rattle.std.specs.Prelude.{◌≡◌, ℕ, ◌<◌, ◌≤◌, ◌↔◌, List, [], ◌∷◌, length, ◌⊎◌, Bool, true, false, Option, Some, None}
 use Rattle.std.proofs.Common.{refl, sym, ◌∙◌, ap, arith, inl, inr}
 use Rattle.hys_number.specs.Number.{Number}
 use Rattle.hys_number.specs.Ops.{◌+ₙ◌, ◌*ₙ◌, ◌-ₙ◌, neg, ◌≤ₙ◌, whole}
@@ -11,28 +11,13 @@ use Rattle.hys_lin.specs.declared.form.Term.{Term}
 use Rattle.hys_lin.specs.declared.form.Affine.{Affine}
 use Rattle.hys_lin.specs.declared.form.Row.{Row}
 use Rattle.hys_lin.specs.declared.form.Interval.{Interval}
-use Rattle.hys_lin.specs.Sums.{Assignment, sum_of, value, Holds, HoldAll, Within}
-use Rattle.hys_guard.specs.Bits.{bit, IsBit, chosen}
+use Rattle.hys_lin.specs.Sums.{Assignment, sum_of, value, HoldAll, Within}
+use Rattle.hys_lin.specs.Bits.{bit, IsBit}
+use Rattle.hys_guard.specs.Bits.{chosen}
 use Rattle.hys_guard.specs.Numbers.{own_term, opposite_term}
-use Rattle.hys_guard.specs.Stated.{IsRow, Stated, AreRows, EachBelow, guard_stated, choice_stated, copy_stated, term_value}
-
--- what the stated rows say
-abbrev pub HoldStated : Assignment → List Stated → Type 0
-HoldStated v [] = Unit {0}
-HoldStated v (s ∷ ss) = (s.left v ≤ₙ s.bound) × HoldStated v ss
-
-row_holds : (r : Row) (s : Stated) (v : Assignment) → IsRow r s → Holds v r ↔ (s.left v ≤ₙ s.bound)
-unfolding Holds
-row_holds r s v h = rw (h.at_most, h.sums v, h.bounds) (λ p. p, λ p. p)
-
-pub rows_hold : (rs : List Row) (ss : List Stated) (v : Assignment) → AreRows rs ss → HoldAll v rs ↔ HoldStated v ss
-rows_hold [] [] v h = (λ p. tt, λ p. tt)
-rows_hold [] (s ∷ ss) v h = absurd h
-rows_hold (r ∷ rs) [] v h = absurd h
-rows_hold (r ∷ rs) (s ∷ ss) v h =
-    let e : Holds v r ↔ (s.left v ≤ₙ s.bound) = row_holds r s v h.0 in
-    let f : HoldAll v rs ↔ HoldStated v ss = rows_hold rs ss v h.1 in
-    (λ p. (e.0 p.0, f.0 p.1), λ p. (e.1 p.0, f.1 p.1))
+use Rattle.hys_lin.specs.Stated.{HoldStated, AreRows}
+use Rattle.hys_lin.proofs.Stated.{rows_hold}
+use Rattle.hys_guard.specs.Stated.{guard_stated, choice_stated, copy_stated, term_value}
 
 -- ---- a guard, at the two values of its column
 one_of : (s c m M e : Number) → m ≤ₙ s +ₙ c → s +ₙ c ≤ₙ M → ((s +ₙ M *ₙ whole 1 ≤ₙ M -ₙ c) × (neg s +ₙ (m -ₙ e) *ₙ whole 1 ≤ₙ c -ₙ e)) ↔ (s +ₙ c ≤ₙ whole 0)
@@ -166,14 +151,3 @@ choice_means l a i b j z rows n h w t e p q = (λ y. c.0 (there (r.0 y)), λ y. 
 
     back : ChoiceHold (j.low -ₙ i.high) (i.low -ₙ j.high) (bit t) (w z) (sum_of a.terms w +ₙ a.constant) (sum_of b.terms w +ₙ b.constant) → HoldStated w (choice_stated l a i b j z)
     back y = (m1.1 y.0, (m2.1 y.1, (m3.1 y.2, (m4.1 y.3, tt))))
-
--- ---- rows after rows
-pub are-append : (xs ys : List Row) (ss ts : List Stated) → AreRows xs ss → AreRows ys ts → AreRows (xs ++ ys) (ss ++ ts)
-are-append [] ys [] ts h i = i
-are-append [] ys (s ∷ ss) ts h i = absurd h
-are-append (r ∷ rs) ys [] ts h i = absurd h
-are-append (r ∷ rs) ys (s ∷ ss) ts h i = (h.0, are-append rs ys ss ts h.1 i)
-
-pub below-append : (n : ℕ) (xs ys : List Row) → EachBelow n xs → EachBelow n ys → EachBelow n (xs ++ ys)
-below-append n [] ys h i = i
-below-append n (r ∷ rs) ys h i = (h.0, below-append n rs ys h.1 i)

@@ -1,16 +1,6 @@
--- The two numbers of a Boolean.
-use Rattle.std.specs.Prelude.{◌≡◌, Bool, true, false, ◌⊎◌}
+-- The number that a truth value chooses.
+use Rattle.std.specs.Prelude.{Bool, true, false}
 use Rattle.hys_number.specs.Number.{Number}
-use Rattle.hys_number.specs.Ops.{whole}
-
--- the number of a truth value
-abbrev pub bit : Bool → Number
-bit true = whole 1
-bit false = whole 0
-
--- the number is 0 or 1
-abbrev pub IsBit : Number → Type 0
-IsBit a = (a ≡ whole 0) ⊎ (a ≡ whole 1)
 
 -- the first number where the truth value is true, else the second
 abbrev pub chosen : Bool → Number → Number → Number

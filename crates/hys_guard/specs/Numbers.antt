@@ -1,67 +1,32 @@
 -- The numbers that the rows of a guard and of a choice are made of, each with the operation that
 -- gives it, in the order in which they are looked for.
-use Rattle.std.specs.Prelude.{◌≡◌, ℕ, List, [], ◌∷◌, ◌++◌, Option, Some, None, Result, Ok, Err, IsTrue, ◌⊎◌, cond}
-use Rattle.std.proofs.Common.{eqb}
+use Rattle.std.specs.Prelude.{◌≡◌, List, [], ◌∷◌, ◌++◌, Option, Some, None, Result, Ok, Err}
 use Rattle.hys_number.specs.Number.{Number}
-use Rattle.hys_number.specs.Ops.{◌+ₙ◌, ◌*ₙ◌, ◌-ₙ◌, ◌/ₙ◌, neg, whole, fits}
+use Rattle.hys_number.specs.Ops.{◌*ₙ◌, ◌-ₙ◌, neg, whole}
 use Rattle.hys_lin.specs.declared.form.Term.{Term}
 use Rattle.hys_lin.specs.declared.form.Affine.{Affine}
 use Rattle.hys_lin.specs.declared.form.Interval.{Interval}
-use Rattle.hys_lin.specs.declared.lost.Op.{Op}
-use Rattle.hys_lin.specs.declared.lost.Op.TheVariants.{Add, Sub, Mul, Div}
 use Rattle.hys_lin.specs.declared.lost.Lost.{Lost as Operation}
+use Rattle.hys_lin.specs.Operations.{first_lost, plus, minus, times}
+use Rattle.hys_lin.specs.Scaled.{coefficient}
 use Rattle.hys_guard.specs.declared.fault.GuardFault.{GuardFault}
 use Rattle.hys_guard.specs.declared.fault.GuardFault.TheVariants.{Lost, Memory}
 use Rattle.hys_guard.specs.declared.terms.Side.{Side}
 use Rattle.hys_guard.specs.declared.terms.Side.TheVariants.{Upper, Lower}
 
--- ---- operations
-abbrev pub result_by : Op → Number → Number → Number
-result_by Add a b = a +ₙ b
-result_by Sub a b = a -ₙ b
-result_by Mul a b = a *ₙ b
-result_by Div a b = a /ₙ b
-
--- the result of the operation fits
-abbrev pub Fits : Operation → Type 0
-Fits o = IsTrue (fits (result_by o.op o.left o.right))
-
--- the result of each operation fits
-abbrev pub AllFit : List Operation → Type 0
-AllFit [] = Unit {0}
-AllFit (o ∷ os) = Fits o × AllFit os
-
--- it is the first of the operations whose result doesn't fit
-abbrev pub FirstLost : List Operation → Operation → Type 0
-FirstLost [] lost = ⊥
-FirstLost (o ∷ os) lost = (¬ (Fits o) × (lost ≡ o)) ⊎ (Fits o × FirstLost os lost)
-
--- an answer is given exactly where all fit, and else the first that doesn't; want of memory is free
+-- an answer is given exactly where all results fit, and else the first operation whose result doesn't;
+-- want of memory is free
 abbrev pub Judged : {X : Type 0} → List Operation → Result X GuardFault → Type 0
-Judged os (Ok x) = AllFit os
-Judged os (Err (Lost lost)) = FirstLost os lost
+Judged os (Ok x) = first_lost os ≡ None
+Judged os (Err (Lost lost)) = first_lost os ≡ Some lost
 Judged os (Err Memory) = Unit {0}
-
-abbrev pub add : Number → Number → Operation
-add a b = record { op = Add; left = a; right = b }
-
-abbrev pub subtract : Number → Number → Operation
-subtract a b = record { op = Sub; left = a; right = b }
-
-abbrev pub multiply : Number → Number → Operation
-multiply a b = record { op = Mul; left = a; right = b }
 
 -- ---- a guard
 -- the factor of the column in the second row, the bound of the first row, the bound of the second
 abbrev pub guard_numbers : Affine → Interval → Number → List Operation
-guard_numbers f i e = subtract i.low e ∷ subtract i.high f.constant ∷ subtract f.constant e ∷ []
+guard_numbers f i e = minus i.low e ∷ minus i.high f.constant ∷ minus f.constant e ∷ []
 
 -- ---- a choice
--- the factor of the column in the terms, 0 where it isn't there
-abbrev pub factor_at : List Term → ℕ → Number
-factor_at [] c = whole 0
-factor_at (t ∷ ts) c = cond (eqb t.column c) t.factor (factor_at ts c)
-
 -- the literal's own term, where it has one
 abbrev pub own_term : List Term → Option Term
 own_term [] = None
@@ -75,8 +40,8 @@ opposite_term (Some t) = Some (record { column = t.column; factor = neg t.factor
 -- a factor joined with that of a form at the same column: in a row that bounds the column from
 -- above the form is subtracted, in one from below it is added
 abbrev pub joined : Side → Number → Number → Operation
-joined Upper a b = subtract a b
-joined Lower a b = add a b
+joined Upper a b = minus a b
+joined Lower a b = plus a b
 
 -- the constant of a form, as a row that bounds the column by the form has it
 abbrev pub constant_by : Side → Number → Number
@@ -86,11 +51,11 @@ constant_by Lower q = neg q
 -- the factor at the literal's column
 abbrev pub joins : Side → Number → Option Term → Affine → List Operation
 joins s a None g = []
-joins s a (Some t) g = multiply a t.factor ∷ joined s (a *ₙ t.factor) (factor_at g.terms t.column) ∷ []
+joins s a (Some t) g = times a t.factor ∷ joined s (a *ₙ t.factor) (coefficient g.terms t.column) ∷ []
 
 -- the numbers of one row: big factor a, literal k + t, form g
 abbrev pub row_numbers : Side → Number → Number → Option Term → Affine → List Operation
-row_numbers s a k t g = joins s a t g ++ (multiply a k ∷ subtract (constant_by s g.constant) (a *ₙ k) ∷ [])
+row_numbers s a k t g = joins s a t g ++ (times a k ∷ minus (constant_by s g.constant) (a *ₙ k) ∷ [])
 
 -- the numbers of the two rows that hold the column to a form where the literal is 0
 abbrev pub pair_numbers : Number → Number → Number → Option Term → Affine → List Operation
@@ -99,7 +64,7 @@ pair_numbers upper lower k t g = row_numbers Upper upper k t g ++ row_numbers Lo
 -- the two big factors, then row by row
 abbrev pub choice_numbers : Affine → Affine → Interval → Affine → Interval → List Operation
 choice_numbers l a i b j =
-    subtract j.low i.high ∷ subtract i.low j.high
+    minus j.low i.high ∷ minus i.low j.high
     ∷ (pair_numbers (j.low -ₙ i.high) (i.low -ₙ j.high) l.constant (own_term l.terms) b
-    ++ (subtract (whole 1) l.constant
+    ++ (minus (whole 1) l.constant
     ∷ pair_numbers (i.low -ₙ j.high) (j.low -ₙ i.high) (whole 1 -ₙ l.constant) (opposite_term (own_term l.terms)) a))

@@ -4,7 +4,7 @@ use Rattle.hys_number.specs.Number.{Number}
 use Rattle.hys_number.specs.Ops.{◌+ₙ◌, ◌*ₙ◌, ◌-ₙ◌, neg, whole}
 use Rattle.hys_lin.specs.declared.form.Term.{Term}
 use Rattle.hys_lin.specs.Sums.{EachColumn}
-use Rattle.hys_guard.specs.Numbers.{factor_at}
+use Rattle.hys_lin.specs.Scaled.{coefficient}
 use Rattle.hys_guard.specs.declared.terms.Side.{Side}
 use Rattle.hys_guard.specs.declared.terms.Side.TheVariants.{Upper, Lower}
 
@@ -63,7 +63,7 @@ unit_by Lower = neg (whole 1)
 -- the form's terms with their signs, and the literal's times the big factor
 abbrev pub JoinedTerms : Side → Number → Option Term → List Term → List Term → Type 0
 JoinedTerms s a None g new = new ≡ signed s g
-JoinedTerms s a (Some t) g new = IsSet t.column (factor_at (signed s g) t.column) (join_by s (a *ₙ t.factor) (factor_at g t.column)) (signed s g) new
+JoinedTerms s a (Some t) g new = IsSet t.column (coefficient (signed s g) t.column) (join_by s (a *ₙ t.factor) (coefficient g t.column)) (signed s g) new
 
 -- the column of the literal, where it has one, has the property
 abbrev pub EachOwn : (ℕ → Type 0) → Option Term → Type 0

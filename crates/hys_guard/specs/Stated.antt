@@ -1,39 +1,15 @@
 -- The rows of guards, choices and copies, each given by its sum and its bound.
-use Rattle.std.specs.Prelude.{◌≡◌, ℕ, List, [], ◌∷◌, ◌++◌, ◌<◌, Option, Some, None, false}
+use Rattle.std.specs.Prelude.{ℕ, List, [], ◌∷◌, ◌++◌, Option, Some, None}
 use Rattle.hys_number.specs.Number.{Number}
 use Rattle.hys_number.specs.Ops.{◌+ₙ◌, ◌*ₙ◌, ◌-ₙ◌, neg, whole}
 use Rattle.hys_lin.specs.declared.form.Term.{Term}
 use Rattle.hys_lin.specs.declared.form.Affine.{Affine}
-use Rattle.hys_lin.specs.declared.form.Row.{Row}
 use Rattle.hys_lin.specs.declared.form.Interval.{Interval}
-use Rattle.hys_lin.specs.Sums.{Assignment, sum_of, AreTerms, EachColumn}
+use Rattle.hys_lin.specs.Stated.{Stated}
+use Rattle.hys_lin.specs.Sums.{Assignment, sum_of}
 use Rattle.hys_guard.specs.Numbers.{own_term, opposite_term, constant_by}
 use Rattle.hys_guard.specs.declared.terms.Side.{Side}
 use Rattle.hys_guard.specs.declared.terms.Side.TheVariants.{Upper, Lower}
-
--- what a row says: the sum is at most the bound
-pub record Stated : Type 0 where
-  pub left : Assignment → Number
-  pub bound : Number
-
--- the row is the one with this sum and bound: its columns rise, no factor is 0, and it is no equation
-pub record IsRow (r : Row) (s : Stated) : Type 0 where
-  pub terms : AreTerms r.terms
-  pub sums : (v : Assignment) → sum_of r.terms v ≡ s.left v
-  pub bounds : r.bound ≡ s.bound
-  pub at_most : r.eq ≡ false
-
--- the rows are the stated ones, in their order
-abbrev pub AreRows : List Row → List Stated → Type 0
-AreRows [] [] = Unit {0}
-AreRows [] (s ∷ ss) = ⊥
-AreRows (r ∷ rs) [] = ⊥
-AreRows (r ∷ rs) (s ∷ ss) = IsRow r s × AreRows rs ss
-
--- each column of each row is below n
-abbrev pub EachBelow : ℕ → List Row → Type 0
-EachBelow n [] = Unit {0}
-EachBelow n (r ∷ rs) = EachColumn (λ c. c < n) r.terms × EachBelow n rs
 
 -- the sum as it is, or with its sign turned
 abbrev pub turned_by : Side → Number → Number

@@ -4,14 +4,16 @@ ghost use Rattle.hys_lin.specs.Sums.{Assignment, value, AreTerms, EachColumn, Ho
 ghost use Rattle.std.specs.Prelude.{◌∷◌, ◌++◌, List as Elements};
 ghost use Rattle.hys_lin.specs.declared.form.Row.{Row as LinRow};
 ghost use Rattle.hys_number.specs.Ops.{◌-ₙ◌};
-ghost use Rattle.hys_guard.specs.Bits.{bit, chosen};
-ghost use Rattle.hys_guard.specs.Numbers.{Judged, choice_numbers, pair_numbers, row_numbers, joins, own_term as own_term_of, opposite_term, subtract};
+ghost use Rattle.hys_lin.specs.Bits.{bit};
+ghost use Rattle.hys_lin.specs.Operations.{minus};
+ghost use Rattle.hys_guard.specs.Bits.{chosen};
+ghost use Rattle.hys_guard.specs.Numbers.{Judged, choice_numbers, pair_numbers, row_numbers, joins, own_term as own_term_of, opposite_term};
 ghost use Rattle.hys_guard.specs.Set.{JoinedTerms, EachOwn, negated};
-ghost use Rattle.hys_guard.specs.Stated.{AreRows, IsRow, EachBelow, choice_stated, pair_stated, bound_by};
+ghost use Rattle.hys_lin.specs.Stated.{AreRows, IsRow, EachBelow};
+ghost use Rattle.hys_guard.specs.Stated.{choice_stated, pair_stated, bound_by};
 
 use crate::fault::GuardFault;
 use crate::numbers::{difference, joined, product};
-use crate::small::one;
 use crate::terms::{Side, factor_at, row_with, set_factor, signed};
 use hys_frac::{Frac, List};
 use hys_lin::{Affine, Interval, Row, Term};
@@ -33,9 +35,9 @@ fn own_term(form: &Affine) -> Option<Term>
 fn opposite(alloc: Global, literal: &Affine) -> Result<Affine, GuardFault>
     ensures constant { IfOk result (λ r. r.constant ≡ whole 1 -ₙ literal.now.constant) }
     ensures terms { IfOk result (λ r. r.terms ≡ negated literal.now.terms) }
-    ensures judged { Judged (subtract (whole 1) literal.now.constant ∷ []) result }
+    ensures judged { Judged (minus (whole 1) literal.now.constant ∷ []) result }
 {
-    let constant = difference(one(), literal.constant)?;
+    let constant = difference(Frac::whole(1), literal.constant)?;
     let terms = signed(alloc, Side::Upper, literal.terms.items())?;
     Ok(Affine {
         terms: List::of(terms),
@@ -130,7 +132,7 @@ fn rows_at_one(
     requires apart { EachColumn (λ c. ¬ (c ≡ column)) form.now.terms }
     requires own_apart { EachColumn (λ c. ¬ (c ≡ column)) literal.now.terms }
     ensures added { IfOk result (λ _. (more : Elements LinRow) × (rows.new.items ≡ rows.old.items ++ more) × AreRows more (pair_stated upper lower (whole 1 -ₙ literal.now.constant) (opposite_term (own_term_of literal.now.terms)) form.now column) × ((n : ℕ) → column < n → EachColumn (λ c. c < n) literal.now.terms → EachColumn (λ c. c < n) form.now.terms → EachBelow n more)) }
-    ensures judged { Judged (subtract (whole 1) literal.now.constant ∷ pair_numbers upper lower (whole 1 -ₙ literal.now.constant) (opposite_term (own_term_of literal.now.terms)) form.now) result }
+    ensures judged { Judged (minus (whole 1) literal.now.constant ∷ pair_numbers upper lower (whole 1 -ₙ literal.now.constant) (opposite_term (own_term_of literal.now.terms)) form.now) result }
 {
     let opposite = opposite(alloc, literal)?;
     rows_at_zero(alloc, rows, upper, lower, &opposite, form, column)?;

@@ -2,7 +2,8 @@ ghost use Rattle.std.specs.Prelude.{◌≡◌, ◌<◌, ◌≤◌, ◌↔◌, �
 ghost use Rattle.hys_number.specs.Ops.{whole, ◌≤ₙ◌, ◌<ₙ◌};
 ghost use Rattle.hys_lin.specs.Sums.{Assignment, value, AreTerms, EachColumn, HoldAll, Within};
 ghost use Rattle.hys_guard.specs.Numbers.{Judged};
-ghost use Rattle.hys_guard.specs.Stated.{AreRows, EachBelow, IsRow, copied_by, copy_stated};
+ghost use Rattle.hys_lin.specs.Stated.{AreRows, EachBelow, IsRow};
+ghost use Rattle.hys_guard.specs.Stated.{copied_by, copy_stated};
 
 use crate::fault::GuardFault;
 use crate::terms::{Side, row_with, signed};

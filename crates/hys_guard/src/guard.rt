@@ -1,9 +1,10 @@
 ghost use Rattle.std.specs.Prelude.{◌≡◌, ◌<◌, ◌≤◌, ◌↔◌, ◌⊎◌, IfOk, length, ℕ, Bool, []};
 ghost use Rattle.hys_number.specs.Ops.{whole, ◌≤ₙ◌, ◌<ₙ◌};
 ghost use Rattle.hys_lin.specs.Sums.{Assignment, value, AreTerms, EachColumn, HoldAll, Within};
-ghost use Rattle.hys_guard.specs.Bits.{IsBit};
+ghost use Rattle.hys_lin.specs.Bits.{IsBit};
 ghost use Rattle.hys_guard.specs.Numbers.{Judged, guard_numbers};
-ghost use Rattle.hys_guard.specs.Stated.{AreRows, IsRow, EachBelow, guard_stated, guarded_by};
+ghost use Rattle.hys_lin.specs.Stated.{AreRows, IsRow, EachBelow};
+ghost use Rattle.hys_guard.specs.Stated.{guard_stated, guarded_by};
 
 use crate::fault::GuardFault;
 use crate::numbers::difference;

@@ -6,7 +6,6 @@ mod copies;
 mod fault;
 mod guard;
 mod numbers;
-mod small;
 mod terms;
 
 pub use choice::choice_rows;

@@ -1,6 +1,7 @@
 ghost use Rattle.std.specs.Prelude.{◌≡◌, IfOk, ◌∷◌, []};
 ghost use Rattle.hys_number.specs.Ops.{◌*ₙ◌, ◌-ₙ◌};
-ghost use Rattle.hys_guard.specs.Numbers.{Judged, subtract, multiply, joined as joined_numbers};
+ghost use Rattle.hys_lin.specs.Operations.{minus, times};
+ghost use Rattle.hys_guard.specs.Numbers.{Judged, joined as joined_numbers};
 ghost use Rattle.hys_guard.specs.Set.{join_by};
 
 use crate::fault::GuardFault;
@@ -11,7 +12,7 @@ use hys_lin::{Lost, Op};
 /// The exact difference.
 pub fn difference(left: Frac, right: Frac) -> Result<Frac, GuardFault>
     ensures value { IfOk result (λ r. r ≡ left -ₙ right) }
-    ensures judged { Judged (subtract left right ∷ []) result }
+    ensures judged { Judged (minus left right ∷ []) result }
 {
     match left.sub(right) {
         Some(number) => Ok(number),
@@ -26,7 +27,7 @@ pub fn difference(left: Frac, right: Frac) -> Result<Frac, GuardFault>
 /// The exact product.
 pub fn product(left: Frac, right: Frac) -> Result<Frac, GuardFault>
     ensures value { IfOk result (λ r. r ≡ left *ₙ right) }
-    ensures judged { Judged (multiply left right ∷ []) result }
+    ensures judged { Judged (times left right ∷ []) result }
 {
     match left.mul(right) {
         Some(number) => Ok(number),

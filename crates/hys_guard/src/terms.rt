@@ -1,11 +1,11 @@
 ghost use Rattle.std.specs.Prelude.{◌≡◌, ◌≤◌, ◌<◌, IfOk, false};
 ghost use Rattle.hys_number.specs.Ops.{whole};
 ghost use Rattle.hys_lin.specs.Sums.{AreTerms};
-ghost use Rattle.hys_guard.specs.Numbers.{factor_at as factor_in, constant_by};
+ghost use Rattle.hys_lin.specs.Scaled.{coefficient};
+ghost use Rattle.hys_guard.specs.Numbers.{constant_by};
 ghost use Rattle.hys_guard.specs.declared.terms.Side.TheVariants.{Upper};
 ghost use Rattle.hys_guard.specs.Set.{Splits, TakenOut, IsSet, unit_by, signed as signed_terms};
 
-use crate::small::{one, zero};
 use hys_frac::{Frac, List};
 use hys_lin::{Row, Term};
 use std::alloc::{AllocError, Global};
@@ -33,8 +33,8 @@ impl Side {
         ensures { result ≡ unit_by self }
     {
         match self {
-            Side::Upper => one(),
-            Side::Lower => one().neg(),
+            Side::Upper => Frac::whole(1),
+            Side::Lower => Frac::whole(1).neg(),
         }
     }
 }
@@ -55,7 +55,7 @@ fn place_of(terms: &[Term], column: u32) -> usize
 // Takes the term at the column out, where there is one, and answers the place for one.
 fn take_out(terms: &mut Vec<Term>, column: u32) -> usize
     requires { AreTerms terms.old.items }
-    ensures { TakenOut column result (factor_in terms.old.items column) terms.old.items terms.new.items }
+    ensures { TakenOut column result (coefficient terms.old.items column) terms.old.items terms.new.items }
 {
     let place = place_of(terms, column);
     if place < terms.len() && terms[place].column == column {
@@ -67,10 +67,10 @@ fn take_out(terms: &mut Vec<Term>, column: u32) -> usize
 /// Sets the factor at a column; a factor 0 leaves no term there.
 pub fn set_factor(terms: &mut Vec<Term>, column: u32, factor: Frac) -> Result<(), AllocError>
     requires { AreTerms terms.old.items }
-    ensures { IfOk result (λ _. IsSet column (factor_in terms.old.items column) factor terms.old.items terms.new.items) }
+    ensures { IfOk result (λ _. IsSet column (coefficient terms.old.items column) factor terms.old.items terms.new.items) }
 {
     let place = take_out(terms, column);
-    if factor != zero() {
+    if factor != Frac::whole(0) {
         terms.insert(place, Term { column, factor })?;
     }
     Ok(())
@@ -78,14 +78,14 @@ pub fn set_factor(terms: &mut Vec<Term>, column: u32, factor: Frac) -> Result<()
 
 /// The factor at a column, 0 where the terms don't name it.
 pub fn factor_at(terms: &[Term], column: u32) -> Frac
-    ensures { result ≡ factor_in terms.now column }
+    ensures { result ≡ coefficient terms.now column }
 {
     for term in terms {
         if term.column == column {
             return term.factor;
         }
     }
-    zero()
+    Frac::whole(0)
 }
 
 /// The form's terms as a row has them that bounds a column by it: negated in one from above.
@@ -119,7 +119,7 @@ pub fn row_with(
     bound: Frac,
 ) -> Result<Row, AllocError>
     requires { AreTerms terms.items }
-    ensures { IfOk result (λ r. IsSet column (factor_in terms.items column) factor terms.items r.terms × (r.bound ≡ bound) × (r.eq ≡ false)) }
+    ensures { IfOk result (λ r. IsSet column (coefficient terms.items column) factor terms.items r.terms × (r.bound ≡ bound) × (r.eq ≡ false)) }
 {
     set_factor(&mut terms, column, factor)?;
     Ok(Row {

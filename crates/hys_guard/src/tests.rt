@@ -2,7 +2,6 @@ ghost use Rattle.std.specs.Prelude.{◌≡◌, IfOk};
 ghost use Rattle.hys_lin.specs.Sums.{AreTerms, EachColumn};
 ghost use Rattle.hys_number.specs.Ops.{◌<ₙ◌, whole as whole_of};
 
-use crate::small::{one, zero};
 use crate::terms::set_factor;
 use crate::{GuardFault, choice_rows, copy_rows, guard_rows};
 use hys_frac::{Frac, List};
@@ -10,11 +9,12 @@ use hys_lin::{Affine, Interval, Lost, Op, Row};
 use std::alloc::{AllocError, Global};
 
 fn whole(number: i8) -> Frac {
-    let mut sum = zero();
-    for _ in 0..number.unsigned_abs() {
-        sum = added(sum, one());
+    let magnitude = Frac::whole(u32::from(number.unsigned_abs()));
+    if number < 0 {
+        magnitude.neg()
+    } else {
+        magnitude
     }
-    if number < 0 { sum.neg() } else { sum }
 }
 
 fn added(a: Frac, b: Frac) -> Frac {
@@ -26,18 +26,18 @@ fn added(a: Frac, b: Frac) -> Frac {
 
 // The greatest number that fits.
 fn largest() -> Frac {
-    let mut power = one();
+    let mut power = Frac::whole(1);
     for _ in 0..62 {
         power = added(power, power);
     }
-    added(power, added(power, one().neg()))
+    added(power, added(power, Frac::whole(1).neg()))
 }
 
 // The tolerance 1.
 fn tolerance() -> Frac
     ensures { whole_of 0 <ₙ result }
 {
-    one()
+    Frac::whole(1)
 }
 
 // A form that doesn't name the column.

@@ -2,3 +2,5 @@ pub mod Merging
 pub mod Multiples
 pub mod Ranging
 pub mod Summing
+pub mod Lists
+pub mod Stated

@@ -12,6 +12,7 @@ use Rattle.hys_lin.specs.Sums.{Assignment, sum_of, value, EachColumn, AreTerms}
 use Rattle.hys_lin.specs.Operations.{first_lost, times, plus}
 use Rattle.hys_lin.specs.Scaled.{coefficient, scaling, adding, scaled, taken, taking, by_order, merging, merged}
 use Rattle.hys_lin.proofs.Summing.{lost_after, lost_before}
+use Rattle.hys_lin.proofs.Lists.{each_more}
 use Rattle.hys_lin.proofs.Multiples.{sum_kept, each_kept, are_kept, sum-scaled, each-scaled, are-scaled}
 
 -- two lists lose first what their rests do
@@ -19,10 +20,6 @@ pub record SameLoss (left : List Term) (by : Number) (right xs bs : List Term) :
   pub lost : first_lost (adding left by right) ≡ first_lost (adding xs by bs)
   pub left_terms : AreTerms xs
   pub right_terms : AreTerms bs
-
-each_weaker : (P Q : ℕ → Type 0) → ((c : ℕ) → P c → Q c) → (ts : List Term) → EachColumn P ts → EachColumn Q ts
-each_weaker P Q f [] h = tt
-each_weaker P Q f (t ∷ ts) h = (f t.column h.0, each_weaker P Q f ts h.1)
 
 -- ---- the value
 sum-taken : (o : Ordering) (a b : Term) (by : Number) (rest : List Term) (f : Assignment) → MatchOrdering o (a.column < b.column) (a.column ≡ b.column) (b.column < a.column) → sum_of (taken o a by b ++ rest) f ≡
@@ -75,12 +72,12 @@ each-merged P (a ∷ xs) by bs h q = each-merging P a xs (merged xs by) by h.0 h
 are-merging : (a : Term) (xs : List Term) (by : Number) → AreTerms (a ∷ xs) → ((bs : List Term) → AreTerms bs → AreTerms (merged xs by bs)) → (bs : List Term) → AreTerms bs → AreTerms (merging a xs (merged xs by) by bs)
 are-merging a xs by p h [] q = p
 are-merging a xs by p h (b ∷ bs) q = go (nat_cmp a.column b.column) (ranks a.column b.column) (merging a xs (merged xs by) by bs) (are-merging a xs by p h bs q.2)
-    (λ l. each-merging (λ d. b.column < d) a xs (merged xs by) by l (each_weaker _ _ (λ c i. omega arith) xs p.1) (λ ys i. each-merged (λ d. b.column < d) xs by ys (each_weaker _ _ (λ c i. omega arith) xs p.1) i) bs q.1)
+    (λ l. each-merging (λ d. b.column < d) a xs (merged xs by) by l (each_more _ _ xs (λ c i. omega arith) p.1) (λ ys i. each-merged (λ d. b.column < d) xs by ys (each_more _ _ xs (λ c i. omega arith) p.1) i) bs q.1)
   where
     go : (o : Ordering) → MatchOrdering o (a.column < b.column) (a.column ≡ b.column) (b.column < a.column) → (more : List Term) → AreTerms more → (b.column < a.column → EachColumn (λ d. b.column < d) more) →
         AreTerms (taken o a by b ++ by_order o (merged xs by (b ∷ bs)) (merged xs by bs) more)
-    go Less m more e l = (p.0, each-merged (λ d. a.column < d) xs by (b ∷ bs) p.1 (m, each_weaker (λ d. b.column < d) (λ d. a.column < d) (λ c i. omega arith) bs q.1), h (b ∷ bs) q)
-    go Equal m more e l = are_kept a.column (a.factor +ₙ by *ₙ b.factor) (merged xs by bs) (each-merged (λ d. a.column < d) xs by bs p.1 (each_weaker (λ d. b.column < d) (λ d. a.column < d) (λ c i. omega arith) bs q.1)) (h bs q.2)
+    go Less m more e l = (p.0, each-merged (λ d. a.column < d) xs by (b ∷ bs) p.1 (m, each_more (λ d. b.column < d) (λ d. a.column < d) bs (λ c i. omega arith) q.1), h (b ∷ bs) q)
+    go Equal m more e l = are_kept a.column (a.factor +ₙ by *ₙ b.factor) (merged xs by bs) (each-merged (λ d. a.column < d) xs by bs p.1 (each_more (λ d. b.column < d) (λ d. a.column < d) bs (λ c i. omega arith) q.1)) (h bs q.2)
     go Greater m more e l = are_kept b.column (by *ₙ b.factor) more (l m) e
 
 pub are-merged : (xs : List Term) (by : Number) (bs : List Term) → AreTerms xs → AreTerms bs → AreTerms (merged xs by bs)
@@ -132,15 +129,15 @@ adding_none by (t ∷ ts) = product_alone by t.factor (adding [] by ts) ∙ ap (
 
 module _ (a : Term) (xs : List Term) (by : Number) (b : Term) (ys : List Term) (p : AreTerms (a ∷ xs)) (q : AreTerms (b ∷ ys)) where
   at_equal : a.column ≡ b.column → first_lost (adding (a ∷ xs) by (b ∷ ys)) ≡ first_lost (taking Equal a by b ++ adding xs by ys)
-  at_equal m = ap₂ (λ (x : Number) (os : List Lost). first_lost (times by b.factor ∷ plus x (by *ₙ b.factor) ∷ os)) (coefficient_here a xs b.column m) (adding_skip a xs by ys (each_weaker (λ d. b.column < d) (λ d. a.column < d) (λ c i. omega arith) ys q.1))
+  at_equal m = ap₂ (λ (x : Number) (os : List Lost). first_lost (times by b.factor ∷ plus x (by *ₙ b.factor) ∷ os)) (coefficient_here a xs b.column m) (adding_skip a xs by ys (each_more (λ d. b.column < d) (λ d. a.column < d) ys (λ c i. omega arith) q.1))
 
   at_greater : b.column < a.column → first_lost (adding (a ∷ xs) by (b ∷ ys)) ≡ first_lost (taking Greater a by b ++ adding (a ∷ xs) by ys)
-  at_greater m = ap (λ (x : Number). first_lost (times by b.factor ∷ plus x (by *ₙ b.factor) ∷ adding (a ∷ xs) by ys)) (coefficient_none (a ∷ xs) b.column (m, each_weaker (λ d. a.column < d) (λ d. b.column < d) (λ c i. omega arith) xs p.1))
+  at_greater m = ap (λ (x : Number). first_lost (times by b.factor ∷ plus x (by *ₙ b.factor) ∷ adding (a ∷ xs) by ys)) (coefficient_none (a ∷ xs) b.column (m, each_more (λ d. a.column < d) (λ d. b.column < d) xs (λ c i. omega arith) p.1))
       ∙ product_alone by b.factor (adding (a ∷ xs) by ys)
 
   adding_next : (o : Ordering) → MatchOrdering o (a.column < b.column) (a.column ≡ b.column) (b.column < a.column) → first_lost (taking o a by b) ≡ None →
       first_lost (adding (a ∷ xs) by (b ∷ ys)) ≡ first_lost (adding (by_order o xs xs (a ∷ xs)) by (by_order o (b ∷ ys) ys ys))
-  adding_next Less m e = ap first_lost (adding_skip a xs by (b ∷ ys) (m, each_weaker (λ d. b.column < d) (λ d. a.column < d) (λ c i. omega arith) ys q.1))
+  adding_next Less m e = ap first_lost (adding_skip a xs by (b ∷ ys) (m, each_more (λ d. b.column < d) (λ d. a.column < d) ys (λ c i. omega arith) q.1))
   adding_next Equal m e = at_equal m ∙ lost_after (taking Equal a by b) (adding xs by ys) e
   adding_next Greater m e = at_greater m ∙ lost_after (taking Greater a by b) (adding (a ∷ xs) by ys) e
 

@@ -28,6 +28,9 @@ times a b = record { op = Mul; left = a; right = b }
 abbrev pub plus : Number → Number → Lost
 plus a b = record { op = Add; left = a; right = b }
 
+abbrev pub minus : Number → Number → Lost
+minus a b = record { op = Sub; left = a; right = b }
+
 -- of a sum that starts at a number: for each term its product with the number that `at` gives it, and then
 -- that product after the sum of what stands before
 abbrev pub summing : Number → List Term → (Term → Number) → List Lost

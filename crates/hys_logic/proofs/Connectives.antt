@@ -1,8 +1,8 @@
 -- What the rows of a connective say at truth values.
-use Rattle.std.specs.Prelude.{◌≡◌, ℕ, ◌<◌, ◌↔◌, List, [], ◌∷◌, Bool, true, false, ◌&&◌, ◌||◌, not, ℤ, pos, negsuc}
+use Rattle.std.specs.Prelude.{◌≡◌, ℕ, ◌<◌, ◌↔◌, [], ◌∷◌, Bool, true, false, ◌&&◌, ◌||◌, not, ℤ, pos, negsuc}
 use Rattle.std.proofs.Common.{refl, sym, ◌∙◌, ap, ap₂, arith, subst}
 use Rattle.hys_number.specs.Number.{Number}
-use Rattle.hys_number.specs.Ops.{◌+ₙ◌, ◌-ₙ◌, neg, ◌≤ₙ◌, whole}
+use Rattle.hys_number.specs.Ops.{◌+ₙ◌, ◌-ₙ◌, neg, ◌≤ₙ◌, whole, int}
 use Rattle.hys_number.proofs.Laws.{whole-ratio}
 use Rattle.hys_number.proofs.Field.{neg-add}
 use Rattle.hys_number.proofs.Scale.{overs, common6, common6_of}
@@ -10,20 +10,16 @@ use Rattle.hys_number.proofs.Ring.{by_ring, v as x, k, minus, ◌⊕◌, ◌⊖�
 use Rattle.hys_lin.specs.Sums.{Assignment}
 use Rattle.hys_prog.specs.declared.formula.Connective.{Connective}
 use Rattle.hys_prog.specs.declared.formula.Connective.TheVariants.{And, Or, Iff, Then, From}
-use Rattle.hys_prog.specs.Formulas.{bit, same, connect}
+use Rattle.hys_lin.specs.Bits.{bit}
+use Rattle.hys_prog.specs.Formulas.{same, connect}
 use Rattle.hys_logic.specs.declared.literal.Literal.{Literal}
 use Rattle.hys_logic.specs.declared.literal.Literal.TheVariants.{Fixed, Column}
 use Rattle.hys_logic.specs.declared.row.Sign.{Sign}
 use Rattle.hys_logic.specs.declared.row.Sign.TheVariants.{Plus, Minus}
 use Rattle.hys_logic.specs.Literals.{column_part, constant_part, number_of, opposite}
-use Rattle.hys_logic.specs.Rows.{signed, int, row_by, connective_stated}
-use Rattle.hys_logic.specs.Stated.{Stated}
+use Rattle.hys_logic.specs.Rows.{signed, row_by, connective_stated}
+use Rattle.hys_lin.specs.Stated.{HoldStated}
 use Rattle.hys_logic.proofs.Smalls.{int-whole, int-minus}
-
--- what the stated rows say
-abbrev pub HoldStated : Assignment → List Stated → Type 0
-HoldStated v [] = Unit {0}
-HoldStated v (s ∷ ss) = (s.left v ≤ₙ s.bound) × HoldStated v ss
 
 -- ---- truth values
 abbrev BitRow : Sign → Bool → Sign → Bool → Sign → Bool → Number → Type 0

@@ -1,20 +1,19 @@
 -- Small whole numbers.
-use Rattle.std.specs.Prelude.{◌≡◌, ℕ, ◌<◌, ℤ, pos, negsuc, ◌-ℤ◌, neg_ℤ, true}
+use Rattle.std.specs.Prelude.{◌≡◌, ℕ, ◌<◌, ℤ, pos, negsuc, ◌-ℤ◌, neg_ℤ}
 use Rattle.std.proofs.Common.{refl, arith}
 use borrow.Author.Differences.{ints, up, down, neg_is}
 use Rattle.hys_number.specs.Number.{make}
-use Rattle.hys_number.specs.Gcd.{gcd}
-use Rattle.hys_number.specs.Ops.{◌+ₙ◌, ◌-ₙ◌, neg, whole, fits}
+use Rattle.hys_number.specs.Ops.{◌-ₙ◌, neg, whole, int}
 use Rattle.hys_number.proofs.Ratio.{make_is}
 use Rattle.hys_number.proofs.Laws.{ratio, ratio_of_is, whole-ratio}
 use Rattle.hys_number.proofs.Scale.{overs}
-use Rattle.hys_logic.specs.Rows.{int}
 
 int-ratio : (z : ℤ) → int z ≡ ratio (up z) (down z) 1
+unfolding int
 int-ratio z = ratio_of_is (make z 1) (up z) (down z) 1 (omega arith) (make_is z 1 (omega arith))
 
 pub int-whole : (k : ℕ) → int (pos k) ≡ whole k
-unfolding whole
+unfolding int whole
 int-whole k = refl
 
 pub int-minus : int (negsuc 0) ≡ neg (whole 1)
@@ -25,18 +24,3 @@ int-neg k z e = let h : 0 < 1 = omega arith in rw (int-ratio z, whole-ratio k 1 
 
 pub int-sub : (a b c z : ℤ) → z ≡ a -ℤ b -ℤ c → int z ≡ int a -ₙ int b -ₙ int c
 int-sub a b c z e = let h : 0 < 1 = omega arith in rw (int-ratio z, int-ratio a, int-ratio b, int-ratio c) (simp (overs, h) (omega (arith, e, ints)))
-
--- 1 and 1, and 2 and 1, have sums that fit
-pub two_is : whole 1 +ₙ whole 1 ≡ whole 2
-two_is = let h : 0 < 1 = omega arith in rw (whole-ratio 1 1 h, whole-ratio 2 1 h) (simp (overs, h) (omega arith))
-
-pub three_is : whole 2 +ₙ whole 1 ≡ whole 3
-three_is = let h : 0 < 1 = omega arith in rw (whole-ratio 1 1 h, whole-ratio 2 1 h, whole-ratio 3 1 h) (simp (overs, h) (omega arith))
-
-pub two_fits : fits (whole 2) ≡ true
-unfolding fits whole make gcd
-two_fits = refl
-
-pub three_fits : fits (whole 3) ≡ true
-unfolding fits whole make gcd
-three_fits = refl

@@ -5,12 +5,13 @@ use Rattle.hys_number.specs.Number.{Number}
 use Rattle.hys_number.specs.Ops.{◌+ₙ◌, ◌*ₙ◌, neg, whole}
 use Rattle.hys_number.proofs.Laws.{ratio, whole-ratio}
 use Rattle.hys_number.proofs.Scale.{same-over}
-use Rattle.hys_number.proofs.Field.{add_assoc, neg_neg}
+use Rattle.hys_number.proofs.Field.{add_zero, neg_neg}
 use Rattle.hys_number.proofs.Ring.{by_ring, v, k, minus, ◌⊕◌, ◌⊗◌, ◌⊖◌}
 use Rattle.hys_lin.specs.declared.form.Term.{Term}
 use Rattle.hys_lin.specs.declared.form.Affine.{Affine}
-use Rattle.hys_prog.specs.Formulas.{bit}
+use Rattle.hys_lin.specs.Bits.{bit}
 use Rattle.hys_lin.specs.Sums.{Assignment, sum_of, value, AreTerms, EachColumn}
+use Rattle.hys_lin.proofs.Lists.{each-append, each_more, terms-append, sum-append}
 use Rattle.hys_logic.specs.declared.literal.Literal.{Literal}
 use Rattle.hys_logic.specs.declared.literal.Literal.TheVariants.{Fixed, Column}
 use Rattle.hys_logic.specs.declared.row.Sign.{Sign}
@@ -103,21 +104,11 @@ pub both_literals : (s : Sign) (a : ℕ) (n : Bool) (t : Sign) (b : ℕ) (m : Bo
 both_literals s a n t b m ts h = record { terms = h.terms; sums = λ w. h.sums w ∙ ap₂ ◌+ₙ◌ (signed-turned s n (w a)) (signed-turned t m (w b)); below = h.below }
 
 -- ---- a row: literals' terms and a column above them
-each-append : (P : ℕ → Type 0) (xs ys : List Term) → EachColumn P xs → EachColumn P ys → EachColumn P (xs ++ ys)
-each-append P [] ys h i = i
-each-append P (t ∷ ts) ys h i = (h.0, each-append P ts ys h.1 i)
-
-each_more : (P Q : ℕ → Type 0) (xs : List Term) → ((c : ℕ) → P c → Q c) → EachColumn P xs → EachColumn Q xs
-each_more P Q [] f h = tt
-each_more P Q (t ∷ ts) f h = (f t.column h.0, each_more P Q ts f h.1)
-
 pub terms_pushed : (xs : List Term) (t : Term) → AreTerms xs → EachColumn (λ d. d < t.column) xs → ¬ (t.factor ≡ whole 0) → AreTerms (xs ++ t ∷ [])
-terms_pushed [] t h l n = (n, tt, tt)
-terms_pushed (x ∷ xs) t h l n = (h.0, each-append (λ d. x.column < d) xs (t ∷ []) h.1 (l.0, tt), terms_pushed xs t h.2 l.1 n)
+terms_pushed xs t h l n = terms-append t.column xs (t ∷ []) h (n, tt, tt) l (omega arith, tt)
 
 pub sum_pushed : (xs : List Term) (t : Term) (w : Assignment) → sum_of (xs ++ t ∷ []) w ≡ sum_of xs w +ₙ t.factor *ₙ w t.column
-sum_pushed [] t w = by_ring ((t.factor *ₙ w t.column) ∷ []) (v 0 ⊕ k 0) (k 0 ⊕ v 0) refl
-sum_pushed (x ∷ xs) t w = rw (sum_pushed xs t w) (sym (add_assoc (x.factor *ₙ w x.column) (sum_of xs w) (t.factor *ₙ w t.column)))
+sum_pushed xs t w = sum-append xs (t ∷ []) w ∙ ap (λ y. sum_of xs w +ₙ y) (add_zero (t.factor *ₙ w t.column))
 
 pub own_sum : (xs new : List Term) (s : Sign) (c : ℕ) (w : Assignment) → new ≡ xs ++ record { column = c; factor = signed s (whole 1) } ∷ [] → sum_of new w ≡ sum_of xs w +ₙ signed s (w c)
 own_sum xs new s c w e = rw e (sum_pushed xs (record { column = c; factor = signed s (whole 1) }) w ∙ ap (λ y. sum_of xs w +ₙ y) (signed-one s (w c)))

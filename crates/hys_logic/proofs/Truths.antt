@@ -3,60 +3,32 @@ use Rattle.std.specs.Prelude.{◌≡◌, ℕ, zero, suc, ◌+◌, ◌*◌, ◌<�
 use Rattle.std.proofs.Common.{refl, sym, ◌∙◌, ap, arith, subst, ⊎_elim, length-append, append_assoc}
 use Rattle.hys_number.specs.Number.{Number, make}
 use Rattle.hys_number.specs.Gcd.{gcd}
-use Rattle.hys_number.specs.Ops.{◌+ₙ◌, ◌≤ₙ◌, whole}
+use Rattle.hys_number.specs.Ops.{◌+ₙ◌, whole}
 use Rattle.hys_number.proofs.Field.{add_zero}
 use Rattle.hys_number.proofs.Ring.{by_ring, v as var, k as num, ◌⊕◌}
-use Rattle.hys_lin.specs.declared.form.Term.{Term}
 use Rattle.hys_lin.specs.declared.form.Row.{Row}
-use Rattle.hys_lin.specs.Sums.{Assignment, Holds, HoldAll, EachColumn}
+use Rattle.hys_lin.specs.Sums.{Assignment, HoldAll}
 use Rattle.hys_prog.specs.declared.formula.Connective.{Connective}
 use Rattle.hys_prog.specs.declared.formula.Connective.TheVariants.{And, Or, Iff, Then, From}
-use Rattle.hys_prog.specs.Formulas.{FormulaTree, constant, named, negated, joined, bit, IsBit, is_one, truth, connect, connectives, EachName}
+use Rattle.hys_lin.specs.Bits.{bit, IsBit}
+use Rattle.hys_prog.specs.Formulas.{FormulaTree, constant, named, negated, joined, is_one, truth, connect, connectives, EachName}
 use Rattle.hys_logic.specs.declared.literal.Literal.{Literal}
 use Rattle.hys_logic.specs.declared.literal.Literal.TheVariants.{Fixed, Column}
 use Rattle.hys_logic.specs.Literals.{number_of, literal_of, opposite, LiteralBelow}
-use Rattle.hys_logic.specs.Stated.{Stated, IsRow, AreRows, EachBelow}
+use Rattle.hys_lin.specs.Stated.{Stated, HoldStated, AreRows, EachBelow}
+use Rattle.hys_lin.proofs.Lists.{each_more}
+use Rattle.hys_lin.proofs.Stated.{rows_hold, are-append, below-append}
 use Rattle.hys_logic.specs.Rows.{connective_stated, stated_of, fresh_of, Agrees, BitsFrom, Added}
-use Rattle.hys_logic.proofs.Connectives.{HoldStated, connective_means, opposite_is}
+use Rattle.hys_logic.proofs.Connectives.{connective_means, opposite_is}
 
 pub bit_is : (a : Number) → IsBit a → a ≡ bit (is_one a)
 unfolding is_one whole make gcd
 bit_is a = ⊎_elim (λ e. rw e refl) (λ e. rw e refl)
 
 -- ---- lists
-row_holds : (r : Row) (s : Stated) (v : Assignment) → IsRow r s → Holds v r ↔ (s.left v ≤ₙ s.bound)
-unfolding Holds
-row_holds r s v h = rw (h.at_most, h.sums v, h.bounds) (λ p. p, λ p. p)
-
-pub rows_hold : (rs : List Row) (ss : List Stated) (v : Assignment) → AreRows rs ss → HoldAll v rs ↔ HoldStated v ss
-rows_hold [] [] v h = (λ p. tt, λ p. tt)
-rows_hold [] (s ∷ ss) v h = absurd h
-rows_hold (r ∷ rs) [] v h = absurd h
-rows_hold (r ∷ rs) (s ∷ ss) v h =
-    let e : Holds v r ↔ (s.left v ≤ₙ s.bound) = row_holds r s v h.0 in
-    let f : HoldAll v rs ↔ HoldStated v ss = rows_hold rs ss v h.1 in
-    (λ p. (e.0 p.0, f.0 p.1), λ p. (e.1 p.0, f.1 p.1))
-
-pub are-append : (xs ys : List Row) (ss ts : List Stated) → AreRows xs ss → AreRows ys ts → AreRows (xs ++ ys) (ss ++ ts)
-are-append [] ys [] ts h i = i
-are-append [] ys (s ∷ ss) ts h i = absurd h
-are-append (r ∷ rs) ys [] ts h i = absurd h
-are-append (r ∷ rs) ys (s ∷ ss) ts h i = (h.0, are-append rs ys ss ts h.1 i)
-
-pub below-append : (n : ℕ) (xs ys : List Row) → EachBelow n xs → EachBelow n ys → EachBelow n (xs ++ ys)
-below-append n [] ys h i = i
-below-append n (r ∷ rs) ys h i = (h.0, below-append n rs ys h.1 i)
-
-column_more : (m n : ℕ) → m ≤ n → (r : Row) → EachColumn (λ c. c < m) r.terms → EachColumn (λ c. c < n) r.terms
-column_more m n l r = go r.terms
-  where
-    go : (ts : List Term) → EachColumn (λ c. c < m) ts → EachColumn (λ c. c < n) ts
-    go [] h = tt
-    go (t ∷ ts) h = (omega arith, go ts h.1)
-
 pub below_more : (m n : ℕ) (rs : List Row) → m ≤ n → EachBelow m rs → EachBelow n rs
 below_more m n [] l h = tt
-below_more m n (r ∷ rs) l h = (column_more m n l r h.0, below_more m n rs l h.1)
+below_more m n (r ∷ rs) l h = (each_more (λ c. c < m) (λ c. c < n) r.terms (λ c p. omega arith) h.0, below_more m n rs l h.1)
 
 hold-append : (v : Assignment) (xs ys : List Stated) → HoldStated v (xs ++ ys) ↔ (HoldStated v xs × HoldStated v ys)
 hold-append v [] ys = (λ h. (tt, h), λ h. h.1)

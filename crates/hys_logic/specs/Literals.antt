@@ -4,7 +4,8 @@ use Rattle.std.proofs.Common.{get_or}
 use Rattle.hys_number.specs.Number.{Number}
 use Rattle.hys_number.specs.Ops.{◌+ₙ◌, neg, whole}
 use Rattle.hys_lin.specs.Sums.{Assignment}
-use Rattle.hys_prog.specs.Formulas.{FormulaTree, constant, named, negated, joined, bit, connectives}
+use Rattle.hys_lin.specs.Bits.{bit}
+use Rattle.hys_prog.specs.Formulas.{FormulaTree, constant, named, negated, joined, connectives}
 use Rattle.hys_logic.specs.declared.literal.Literal.{Literal}
 use Rattle.hys_logic.specs.declared.literal.Literal.TheVariants.{Fixed, Column}
 

@@ -1,19 +1,20 @@
 -- The rows of connectives, and what they say of the fresh columns.
 use Rattle.std.specs.Prelude.{◌≡◌, ℕ, suc, ◌+◌, ◌<◌, ◌≤◌, List, [], ◌∷◌, ◌++◌, Bool, true, false, ℤ, pos, negsuc}
-use Rattle.hys_number.specs.Number.{Number, make}
-use Rattle.hys_number.specs.Ops.{◌+ₙ◌, ◌-ₙ◌, neg, whole}
+use Rattle.hys_number.specs.Number.{Number}
+use Rattle.hys_number.specs.Ops.{◌+ₙ◌, ◌-ₙ◌, neg, whole, int}
 use Rattle.hys_lin.specs.declared.form.Term.{Term}
 use Rattle.hys_lin.specs.declared.form.Row.{Row}
 use Rattle.hys_lin.specs.Sums.{Assignment, sum_of, AreTerms, EachColumn}
 use Rattle.hys_prog.specs.declared.formula.Connective.{Connective}
 use Rattle.hys_prog.specs.declared.formula.Connective.TheVariants.{And, Or, Iff, Then, From}
-use Rattle.hys_prog.specs.Formulas.{FormulaTree, constant, named, negated, joined, bit, IsBit, connectives, truth, connect}
+use Rattle.hys_lin.specs.Bits.{bit, IsBit}
+use Rattle.hys_prog.specs.Formulas.{FormulaTree, constant, named, negated, joined, connectives, truth, connect}
 use Rattle.hys_logic.specs.declared.literal.Literal.{Literal}
 use Rattle.hys_logic.specs.declared.literal.Literal.TheVariants.{Fixed, Column}
 use Rattle.hys_logic.specs.declared.row.Sign.{Sign}
 use Rattle.hys_logic.specs.declared.row.Sign.TheVariants.{Plus, Minus}
 use Rattle.hys_logic.specs.Literals.{column_part, constant_part, opposite, literal_of, LiteralBelow}
-use Rattle.hys_logic.specs.Stated.{Stated, AreRows, EachBelow}
+use Rattle.hys_lin.specs.Stated.{Stated, AreRows, EachBelow}
 
 abbrev pub signed : Sign → Number → Number
 signed Plus a = a
@@ -30,10 +31,6 @@ turned Minus true = Plus
 abbrev pub own_terms : Literal → List Term
 own_terms (Fixed b) = []
 own_terms (Column c n) = record { column = c; factor = signed (turned Plus n) (whole 1) } ∷ []
-
--- a whole number of either sign
-abbrev pub int : ℤ → Number
-int z = make z 1
 
 -- two literals and a column with their signs, at most a base; the literals' constants stand in the bound
 abbrev pub row_by : Sign → Literal → Sign → Literal → Sign → ℕ → ℤ → Stated

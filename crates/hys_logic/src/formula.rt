@@ -1,12 +1,13 @@
 ghost use Rattle.std.specs.Prelude.{◌≡◌, ◌+◌, ◌*◌, ◌^◌, ◌≤◌, ◌<◌, ◌↔◌, IfOk, length, ℕ, Bool};
 ghost use Rattle.hys_number.specs.Number.{Number};
 ghost use Rattle.hys_lin.specs.Sums.{Assignment, value, AreTerms, EachColumn, HoldAll};
-ghost use Rattle.hys_prog.specs.Formulas.{tree_of, connectives, EachName, IsBit, bit, truth};
+ghost use Rattle.hys_lin.specs.Bits.{bit, IsBit};
+ghost use Rattle.hys_prog.specs.Formulas.{tree_of, connectives, EachName, truth};
 ghost use Rattle.hys_logic.specs.declared.row.Sign.TheVariants.{Plus, Minus};
 ghost use Rattle.hys_prog.specs.declared.formula.Connective.TheVariants.{And, Iff};
 ghost use Rattle.hys_logic.specs.Literals.{column_in, literal_of, number_of, LiteralBelow};
 ghost use Rattle.hys_logic.specs.Rows.{Added, Agrees, BitsFrom, fresh_of, stated_of, connective_stated, or_stated};
-ghost use Rattle.hys_logic.specs.Stated.{AreRows, EachBelow};
+ghost use Rattle.hys_lin.specs.Stated.{AreRows, EachBelow};
 
 use crate::literal::{Literal, Logic};
 use crate::row::{Part, Sign, nothing, row_of};

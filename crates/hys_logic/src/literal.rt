@@ -2,7 +2,7 @@ ghost use Rattle.std.specs.Prelude.{◌≡◌, IfOk, ℕ, length, ◌≤◌, ◌
 ghost use Rattle.hys_lin.specs.Sums.{Assignment, value, AreTerms, EachColumn};
 ghost use Rattle.hys_logic.specs.Literals.{number_of, constant_part, opposite as opposite_of, LiteralBelow};
 ghost use Rattle.hys_logic.specs.Rows.{own_terms};
-ghost use Rattle.hys_prog.specs.Formulas.{bit as bit_of};
+ghost use Rattle.hys_lin.specs.Bits.{bit as bit_of};
 
 use crate::row::{Sign, single, term};
 use crate::small::bit;

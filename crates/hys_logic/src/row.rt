@@ -1,15 +1,15 @@
 ghost use Rattle.std.specs.Prelude.{◌≡◌, IfOk, ℕ, ◌≤◌, ◌<◌, unsigned_abs, false, ◌∷◌, [], ◌+◌, ◌-ℤ◌};
-ghost use Rattle.hys_number.specs.Ops.{whole};
+ghost use Rattle.hys_number.specs.Ops.{whole, int};
 ghost use Rattle.hys_lin.specs.Sums.{EachColumn};
-ghost use Rattle.hys_prog.specs.Formulas.{bit as bit_of};
+ghost use Rattle.hys_lin.specs.Bits.{bit as bit_of};
 ghost use Rattle.hys_logic.specs.declared.literal.Literal.TheVariants.{Fixed};
 ghost use Rattle.hys_logic.specs.declared.row.Sign.TheVariants.{Plus};
 ghost use Rattle.hys_logic.specs.Literals.{LiteralBelow};
-ghost use Rattle.hys_logic.specs.Rows.{signed, row_by, int, turned, IsSum, AreOf};
-ghost use Rattle.hys_logic.specs.Stated.{IsRow};
+ghost use Rattle.hys_logic.specs.Rows.{signed, row_by, turned, IsSum, AreOf};
+ghost use Rattle.hys_lin.specs.Stated.{IsRow};
 
 use crate::literal::Literal;
-use crate::small::{one, small, two};
+use crate::small::small;
 use hys_frac::{Frac, List};
 use hys_lin::{Row, Term};
 use std::alloc::{AllocError, Global};
@@ -27,8 +27,8 @@ impl Sign {
         ensures { result ≡ signed self (whole 1) }
     {
         match self {
-            Sign::Plus => one(),
-            Sign::Minus => one().neg(),
+            Sign::Plus => Frac::whole(1),
+            Sign::Minus => Frac::whole(1).neg(),
         }
     }
 
@@ -37,8 +37,8 @@ impl Sign {
         ensures { result ≡ signed self (whole 2) }
     {
         match self {
-            Sign::Plus => two(),
-            Sign::Minus => two().neg(),
+            Sign::Plus => Frac::whole(2),
+            Sign::Minus => Frac::whole(2).neg(),
         }
     }
 

@@ -1,8 +1,7 @@
 -- Formulas without pointers, their names and connectives, and their truth.
-use Rattle.std.specs.Prelude.{◌≡◌, ℕ, suc, ◌+◌, Bool, true, false, ◌&&◌, ◌||◌, not, pos, ◌⊎◌}
+use Rattle.std.specs.Prelude.{ℕ, suc, ◌+◌, Bool, true, false, ◌&&◌, ◌||◌, not, pos}
 use Rattle.std.proofs.Common.{eqb, int_eq}
 use Rattle.hys_number.specs.Number.{Number}
-use Rattle.hys_number.specs.Ops.{whole}
 use Rattle.hys_lin.specs.Sums.{Assignment}
 use Rattle.hys_prog.specs.declared.formula.Connective.{Connective}
 use Rattle.hys_prog.specs.declared.formula.Connective.TheVariants.{And, Or, Iff, Then, From}
@@ -22,19 +21,11 @@ tree_of (Name n) = named n
 tree_of (Not' q f) = negated (tree_of f)
 tree_of (Join' c q f r g) = joined c (tree_of f) (tree_of g)
 
--- ---- the numbers of a Boolean name
-abbrev pub bit : Bool → Number
-bit true = whole 1
-bit false = whole 0
-
-abbrev pub IsBit : Number → Type 0
-IsBit a = (a ≡ whole 0) ⊎ (a ≡ whole 1)
-
+-- ---- truth
 -- whether the number is 1
 unfoldable pub is_one : Number → Bool
 is_one a = int_eq a.num (pos 1) && eqb a.den 1
 
--- ---- truth
 abbrev pub same : Bool → Bool → Bool
 same true b = b
 same false b = not b

@@ -1,4 +1,5 @@
-use Rattle.hys_guard.proofs.Meaning.{choice_means, are-append, below-append}
+use Rattle.hys_lin.proofs.Stated.{are-append, below-append}
+use Rattle.hys_guard.proofs.Meaning.{choice_means}
 use Rattle.hys_guard.proofs.choice.choice_rows.Goals as goal
 
 stated : goal.returns-clause-stated

@@ -1,7 +1,7 @@
 use Rattle.std.proofs.Common.{sym, ◌∙◌, ap}
-use Rattle.hys_guard.specs.Numbers.{factor_at as factor_in}
+use Rattle.hys_lin.specs.Scaled.{coefficient}
 use Rattle.hys_guard.proofs.Lists.{none_left}
 use Rattle.hys_guard.proofs.terms.factor_at.Goals as goal
 
 pub returns : goal.returns
-returns c = c.zero.ensures ∙ sym (ap (λ ts. factor_in ts c.args.column) (none_left c.loop-term.term-index c.args.terms.now c.loop-term-test.false)) ∙ c.loop-term.invariant
+returns c = c.whole.ensures ∙ sym (ap (λ ts. coefficient ts c.args.column) (none_left c.loop-term.term-index c.args.terms.now c.loop-term-test.false)) ∙ c.loop-term.invariant

@@ -2,4 +2,4 @@ use Rattle.hys_guard.proofs.Zero.{zero_below_one}
 use Rattle.hys_guard.proofs.tests.tolerance.Goals as goal
 
 pub returns : goal.returns
-returns c = rw (c.one.ensures) zero_below_one
+returns c = rw (c.whole.ensures) zero_below_one

@@ -1,7 +1,7 @@
 use Rattle.std.proofs.Common.{◌≡◌, ◌∙◌, ap, ap₂, arith, refl, ℤ, ◌≤◌, ◌-ℤ◌, unsigned_abs, to_z, of_z, to_z-of_z, w8, FitsSigned}
 use borrow.Author.Differences.{ints}
-use Rattle.hys_number.specs.Ops.{◌-ₙ◌}
-use Rattle.hys_logic.specs.Rows.{int, signed}
+use Rattle.hys_number.specs.Ops.{◌-ₙ◌, int}
+use Rattle.hys_logic.specs.Rows.{signed}
 use Rattle.hys_logic.proofs.Terms.{row_terms, row_sums, row_below}
 use Rattle.hys_logic.proofs.Smalls.{int-sub}
 use Rattle.hys_logic.proofs.row.row_of.Goals as goal

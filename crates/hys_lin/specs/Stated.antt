@@ -1,6 +1,7 @@
 -- Rows given by their sum and their bound.
 use Rattle.std.specs.Prelude.{◌≡◌, ℕ, List, [], ◌∷◌, ◌<◌, false}
 use Rattle.hys_number.specs.Number.{Number}
+use Rattle.hys_number.specs.Ops.{◌≤ₙ◌}
 use Rattle.hys_lin.specs.declared.form.Row.{Row}
 use Rattle.hys_lin.specs.Sums.{Assignment, sum_of, AreTerms, EachColumn}
 
@@ -8,6 +9,11 @@ use Rattle.hys_lin.specs.Sums.{Assignment, sum_of, AreTerms, EachColumn}
 pub record Stated : Type 0 where
   pub left : Assignment → Number
   pub bound : Number
+
+-- each of the stated sums is at most its bound
+abbrev pub HoldStated : Assignment → List Stated → Type 0
+HoldStated v [] = Unit {0}
+HoldStated v (s ∷ ss) = (s.left v ≤ₙ s.bound) × HoldStated v ss
 
 -- the row is the one with this sum and bound: its columns rise, no factor is 0, and it is no equation
 pub record IsRow (r : Row) (s : Stated) : Type 0 where
