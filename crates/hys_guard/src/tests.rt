@@ -7,6 +7,7 @@ use crate::{GuardFault, choice_rows, copy_rows, guard_rows};
 use hys_frac::{Frac, List};
 use hys_lin::{Affine, Interval, Lost, Op, Row};
 use std::alloc::{AllocError, Global};
+use std::cmp::Ordering;
 
 fn whole(number: i8) -> Frac {
     let magnitude = Frac::whole(u32::from(number.unsigned_abs()));
@@ -33,11 +34,17 @@ fn largest() -> Frac {
     added(power, added(power, Frac::whole(1).neg()))
 }
 
-// The tolerance 1.
+// The tolerance 1/1000.
 fn tolerance() -> Frac
     ensures { whole_of 0 <ₙ result }
 {
-    Frac::whole(1)
+    match Frac::new(1, 1000) {
+        Some(number) => match number.cmp(Frac::whole(0)) {
+            Ordering::Greater => number,
+            _ => Frac::whole(1),
+        },
+        None => Frac::whole(1),
+    }
 }
 
 // A form that doesn't name the column.
@@ -65,16 +72,19 @@ fn between(low: i8, high: i8) -> Interval {
     }
 }
 
-// Rows as `factor@column .. <= bound;`, all numbers being whole, or the fault.
+// Rows as `factor@column .. <= bound;`, or the fault.
 fn shown(alloc: Global, rows: Result<Vec<Row>, GuardFault>) -> Result<String, AllocError> {
     let mut text = String::new(alloc);
     match rows {
         Ok(rows) => {
             for row in &rows {
                 for term in row.terms.items() {
-                    text.push_str(&format!(in alloc; "{}@{} ", term.factor.num(), term.column)?)?;
+                    text.push_str(term.factor.text(alloc)?.as_str())?;
+                    text.push_str(&format!(in alloc; "@{} ", term.column)?)?;
                 }
-                text.push_str(&format!(in alloc; "<= {}; ", row.bound.num())?)?;
+                text.push_str("<= ")?;
+                text.push_str(row.bound.text(alloc)?.as_str())?;
+                text.push_str("; ")?;
             }
         }
         Err(GuardFault::Lost(lost)) => text.push_str(sign_of(&lost))?,
@@ -146,19 +156,31 @@ fn chosen(
     )
 }
 
-// `x >= 5` and `x <= 20` for x from 0 to 10 with tolerance 1, a high end 0, and a column before
+// `x >= 5` and `x <= 20` for x from 0 to 10 with tolerance 1/1000, a high end 0, and a column before
 // the number's; the rows were worked out by hand from their inequalities.
 #[test]
 fn guards(rt: HostRuntime) {
     let alloc = rt.alloc();
     let text = guarded(alloc, &[(0, -1)], 5, between(-5, 5), 1).expect(&rt, "memory");
-    assert_eq!(rt; text.as_str(), "-1@0 5@1 <= 0; 1@0 -6@1 <= 4; ");
+    assert_eq!(rt;
+        text.as_str(),
+        "-1@0 5@1 <= 0; 1@0 -5001/1000@1 <= 4999/1000; "
+    );
     let text = guarded(alloc, &[(0, 1)], -20, between(-20, -10), 1).expect(&rt, "memory");
-    assert_eq!(rt; text.as_str(), "1@0 -10@1 <= 10; -1@0 -21@1 <= -21; ");
+    assert_eq!(rt;
+        text.as_str(),
+        "1@0 -10@1 <= 10; -1@0 -20001/1000@1 <= -20001/1000; "
+    );
     let text = guarded(alloc, &[(0, 1)], -5, between(-5, 0), 1).expect(&rt, "memory");
-    assert_eq!(rt; text.as_str(), "1@0 <= 5; -1@0 -6@1 <= -6; ");
+    assert_eq!(rt;
+        text.as_str(),
+        "1@0 <= 5; -1@0 -5001/1000@1 <= -5001/1000; "
+    );
     let text = guarded(alloc, &[(1, -1)], 5, between(-5, 5), 0).expect(&rt, "memory");
-    assert_eq!(rt; text.as_str(), "5@0 -1@1 <= 0; -6@0 1@1 <= 4; ");
+    assert_eq!(rt;
+        text.as_str(),
+        "5@0 -1@1 <= 0; -5001/1000@0 1@1 <= 4999/1000; "
+    );
     let wide = Interval {
         low: largest().neg(),
         high: largest(),
