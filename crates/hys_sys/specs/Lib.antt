@@ -1,2 +1,3 @@
 pub mod System
 pub mod Matrix
+pub mod Solution

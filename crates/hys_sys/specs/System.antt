@@ -1,5 +1,5 @@
 -- What every system keeps.
-use Rattle.std.specs.Prelude.{◌≡◌, ℕ, ◌+◌, ◌*◌, ◌<◌, ◌≤◌, List, [], ◌∷◌, ◌++◌, length, map, All, false}
+use Rattle.std.specs.Prelude.{◌≡◌, ℕ, ◌+◌, ◌*◌, ◌≤◌, List, [], ◌∷◌, ◌++◌, length, map, All, false}
 use Rattle.hys_number.specs.Ops.{whole}
 use Rattle.hys_frac.specs.Differ.{Differ}
 use Rattle.hys_lin.specs.Sums.{IsInterval}
