@@ -1,5 +1,5 @@
 -- A name that is apart from two lists is apart from both together.
-use Rattle.std.proofs.Common.{◌≡◌, ℕ, List, [], ◌∷◌, ◌++◌, map}
+use Rattle.std.proofs.Common.{ℕ, List, [], ◌∷◌, ◌++◌, map}
 use Rattle.hys_frac.specs.Differ.{Apart}
 use Rattle.hys_plain.specs.Parts.{name_of}
 use Rattle.hys_plain.specs.declared.parts.Boxed.{Boxed}

@@ -1,5 +1,5 @@
 -- What every list of parts keeps.
-use Rattle.std.specs.Prelude.{◌≡◌, ℕ, ◌+◌, ◌<◌, ◌≤◌, List, [], ◌∷◌, ◌++◌, length, map}
+use Rattle.std.specs.Prelude.{◌≡◌, ℕ, ◌+◌, ◌≤◌, List, ◌++◌, length, map}
 use Rattle.std.specs.List.{All}
 use Rattle.hys_frac.specs.Differ.{Differ}
 use Rattle.hys_lin.specs.Sums.{IsInterval}

@@ -1,3 +1,5 @@
+ghost use Rattle.std.specs.Prelude.{◌≡◌, ◌+◌, ◌≤◌, ◌<◌, ◌⊎◌, OnOk, OnErr};
+
 use crate::parts::PlainFault;
 
 const NODES: u32 = 4000;
@@ -11,12 +13,18 @@ pub struct Budget {
 }
 
 impl Budget {
-    pub fn new() -> Budget {
+    pub fn new() -> Budget
+        ensures { result.nodes ≡ 4000 }
+    {
         Budget { nodes: NODES }
     }
 
     // Takes an expression of so many nodes off.
-    pub fn take_expression(&mut self, nodes: u32) -> Result<(), PlainFault> {
+    pub fn take_expression(&mut self, nodes: u32) -> Result<(), PlainFault>
+        ensures taken { OnOk result (self.new.nodes + nodes ≡ self.old.nodes) }
+        ensures small { OnOk result (nodes ≤ 1000) }
+        ensures refused { OnErr result ((1000 < nodes) ⊎ (self.old.nodes < nodes)) }
+    {
         if nodes > NODES_OF_ONE || nodes > self.nodes {
             return Err(PlainFault::NotYet);
         }

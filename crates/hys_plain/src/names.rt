@@ -21,7 +21,9 @@ impl Names {
     }
 
     // The column of a name.
-    pub fn column(&self, name: &str) -> Option<usize> {
+    pub fn column(&self, name: &str) -> Option<usize>
+        ensures { IfSome result (λ i. i < count_of self.now) }
+    {
         match place_of(&self.states, name) {
             Some(place) => Some(place),
             None => Some(
