@@ -1,3 +1,5 @@
 pub mod System
 pub mod Matrix
 pub mod Solution
+pub mod Exact
+pub mod Sum

@@ -1,6 +1,7 @@
 //! Mixed logical dynamical systems and their matrix text.
 #![tactic(auto)]
 
+pub mod laws;
 mod solves;
 mod system;
 mod writer;
