@@ -1,18 +1,16 @@
 -- Solutions of a system, and the row at which testing one first meets a result that doesn't fit.
-use Rattle.std.specs.Prelude.{◌≡◌, ◌⊎◌, ℕ, ◌<◌, List, ◌∷◌, ◌++◌, length, Option, Some, None, HoldsAt}
+use Rattle.std.specs.Prelude.{◌≡◌, ℕ, ◌<◌, List, ◌∷◌, ◌++◌, length, Option, Some, None, HoldsAt}
 use Rattle.std.specs.List.{AllByRecursion}
 use Rattle.hys_number.specs.Number.{Number}
 use Rattle.hys_number.specs.Ops.{whole}
 use Rattle.hys_lin.specs.Sums.{at, Holds, HoldAll}
+use Rattle.hys_lin.specs.Bits.{IsBit}
 use Rattle.hys_lin.specs.Operations.{first_lost, summing}
 use Rattle.hys_lin.specs.declared.form.Row.{Row}
 use Rattle.hys_lin.specs.declared.lost.Lost.{Lost}
 use Rattle.hys_sys.specs.declared.system.Kind2.{Kind2}
 use Rattle.hys_sys.specs.declared.system.Kind2.TheVariants.{Real, Bool}
 use Rattle.hys_sys.specs.declared.system.System.{System}
-
-abbrev pub IsBit : Number → Type 0
-IsBit a = (a ≡ whole 0) ⊎ (a ≡ whole 1)
 
 -- a number of the kind: of a Boolean column that is 0 or 1
 abbrev pub IsOfKind : Kind2 → Number → Type 0

@@ -1,7 +1,8 @@
 ghost use Rattle.std.specs.Prelude.{◌≡◌, ◌<◌, length, IfOk, IsTrue, ◌↔◌, Err, All, HoldsAt, ℕ};
 ghost use Rattle.hys_lin.specs.Sums.{HoldAll, EachColumn, at};
 ghost use Rattle.hys_lin.specs.declared.lost.Lost.{Lost as Loss};
-ghost use Rattle.hys_sys.specs.Solution.{Solution, LostAt, IsOfKind, IsBit};
+ghost use Rattle.hys_sys.specs.Solution.{Solution, LostAt, IsOfKind};
+ghost use Rattle.hys_lin.specs.Bits.{IsBit};
 
 use crate::system::{Column, Kind2, System};
 use hys_frac::Frac;
