@@ -1,11 +1,8 @@
 -- From what a call says to what its callers say.
-use Rattle.std.proofs.Common.{◌≡◌, ℕ, ◌++◌, List, [], length, take, Option, None, Some, refl, sym, ap, ◌∙◌, inl, inr}
+use Rattle.std.proofs.Common.{◌≡◌, ℕ, ◌++◌, List, length, take, Option, None, Some, refl, sym, ap, ◌∙◌, inl, inr}
 use Rattle.std.proofs.Math.Seq.{take-length}
 use Rattle.std.proofs.lemmas.List.{append-nil}
 use Rattle.hys_io.specs.Outside.{Named, IfAppended, IfPut, IfTorn}
-use Rattle.hys_sys.specs.System.{IsSystem}
-use Rattle.hys_sys.specs.Matrix.{matrix_text}
-use Rattle.hys_sys.specs.declared.system.System.{System}
 use Rattle.hys_app.specs.Lines.{too_long_line}
 use Rattle.hys_app.specs.Ends.{IfPart, SomePart}
 

@@ -1,14 +1,14 @@
 -- The system of a plain source keeps what every system keeps.
-use Rattle.std.proofs.Common.{◌≡◌, ℕ, ◌+◌, ◌*◌, ◌≤◌, ◌<◌, List, [], ◌∷◌, ◌++◌, length, map, refl, sym, ap, ap₂, ◌∙◌, subst, arith, All, length-append}
-use Rattle.std.proofs.lemmas.List.{length-map, map-append, append-nil}
-use Rattle.std.proofs.lemmas.List.Elements.{All-head, All-tail, All-cons, All-nil, All-append}
+use Rattle.std.proofs.Common.{◌≡◌, ℕ, ◌≤◌, List, [], ◌∷◌, ◌++◌, length, map, refl, sym, ap, ◌∙◌, subst, arith, All, length-append}
+use Rattle.std.proofs.lemmas.List.{length-map, append-nil}
+use Rattle.std.proofs.lemmas.List.Elements.{All-head, All-tail, All-cons, All-nil}
 use Rattle.hys_frac.specs.Differ.{Differ}
 use Rattle.hys_lin.specs.Sums.{IsInterval}
 use Rattle.hys_lin.specs.Over.{AreTermsOver}
-use Rattle.hys_plain.specs.Parts.{AreParts, boxed_of, name_of}
+use Rattle.hys_plain.specs.Parts.{AreParts, name_of}
 use Rattle.hys_plain.specs.declared.parts.Boxed.{Boxed}
 use Rattle.hys_plain.specs.declared.parts.PlainParts.{PlainParts}
-use Rattle.hys_sys.specs.System.{IsSystem, InOrder, IsBox, rank, states, names}
+use Rattle.hys_sys.specs.System.{IsSystem, InOrder, IsBox, rank, states}
 use Rattle.hys_sys.specs.declared.system.ColumnRole.{ColumnRole}
 use Rattle.hys_sys.specs.declared.system.ColumnRole.TheVariants.{State, Input}
 use Rattle.hys_sys.specs.declared.system.Column.{Column}

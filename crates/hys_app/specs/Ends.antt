@@ -1,5 +1,5 @@
 -- What stands in files and in a sink when a run has ended.
-use Rattle.std.specs.Prelude.{◌≡◌, ℕ, ◌<◌, ◌≤◌, ◌^◌, ◌⊎◌, List, ◌++◌, length, take, Option, None, Some}
+use Rattle.std.specs.Prelude.{◌≡◌, ℕ, ◌<◌, ◌≤◌, ◌⊎◌, List, length, take, Option}
 use Rattle.hys_io.specs.Outside.{Named, IfAppended, IfPut, IfTorn, IfHolds}
 use Rattle.hys_sys.specs.System.{IsSystem}
 use Rattle.hys_sys.specs.Matrix.{matrix_text}

@@ -1,5 +1,5 @@
 -- The system of a plain source.
-use Rattle.std.specs.Prelude.{ℕ, ◌+◌, List, [], ◌++◌, length, map}
+use Rattle.std.specs.Prelude.{◌+◌, [], ◌++◌, length, map}
 use Rattle.hys_plain.specs.declared.parts.Boxed.{Boxed}
 use Rattle.hys_plain.specs.declared.parts.PlainParts.{PlainParts}
 use Rattle.hys_sys.specs.declared.system.ColumnRole.{ColumnRole}

@@ -1,4 +1,4 @@
-use Rattle.std.proofs.Common.{◌≡◌, sym, subst}
+use Rattle.std.proofs.Common.{sym, subst}
 use Rattle.hys_sys.specs.System.{IsSystem}
 use Rattle.hys_app.proofs.Plain.{lawful}
 use Rattle.hys_app.proofs.compile.texts.Goals as goal
