@@ -1,11 +1,14 @@
 -- What every program keeps.
-use Rattle.std.specs.Prelude.{◌≡◌, ℕ, zero, suc, ◌+◌, List, [], ◌∷◌, Bool, true, false, Option, Some, None, cond}
+use Rattle.std.specs.Prelude.{◌≡◌, ℕ, zero, suc, ◌+◌, List, [], ◌∷◌, Bool, true, false, Option, Some, None, All, cond, length, map}
 use Rattle.std.proofs.Common.{eqb}
 use Rattle.hys_number.specs.Ops.{◌<ₙ◌, whole}
+use Rattle.hys_frac.specs.Differ.{Differ}
 use Rattle.hys_lin.specs.declared.form.Affine.{Affine}
 use Rattle.hys_lin.specs.Sums.{AreTerms, EachColumn}
-use Rattle.hys_prog.specs.declared.place.Kind.{Kind}
-use Rattle.hys_prog.specs.declared.place.Kind.TheVariants.{Real, Bool as Truth}
+use Rattle.hys_lex.specs.declared.token.TokenKind.TheVariants.{Name as Word}
+use Rattle.hys_lex.specs.Pieces.{IsTokenText, IsShort}
+use Rattle.hys_ast.specs.declared.source.Kind.{Kind}
+use Rattle.hys_ast.specs.declared.source.Kind.TheVariants.{Real, Bool as Truth}
 use Rattle.hys_prog.specs.declared.program.Role.{Role}
 use Rattle.hys_prog.specs.declared.program.Role.TheVariants.{State, Input, Output, Parameter, Aux}
 use Rattle.hys_prog.specs.declared.program.Name.{Name}
@@ -139,25 +142,19 @@ items_weight [] = 0
 items_weight (t ∷ ts) = body_connectives t.body + cond (is_must t.body) 1 0 + items_weight ts
 
 -- ---- texts
-abbrev pub Differs : List ℕ → List Name → Type 0
-Differs text [] = Unit {0}
-Differs text (x ∷ xs) = ¬ (text ≡ x.text) × Differs text xs
+abbrev pub text_of : Name → List ℕ
+text_of x = x.text
 
--- the texts of the names differ
-abbrev pub AllDiffer : List Name → Type 0
-AllDiffer [] = Unit {0}
-AllDiffer (x ∷ xs) = Differs x.text xs × AllDiffer xs
-
--- no text begins with `#`, as the names of fresh columns do
-abbrev pub NoneFresh : List Name → Type 0
-NoneFresh [] = Unit {0}
-NoneFresh (x ∷ xs) = ((rest : List ℕ) → ¬ (x.text ≡ 35 ∷ rest)) × NoneFresh xs
+-- the text is a name of the language: a word of at most 64 bytes, and no keyword. So it doesn't begin with `#`,
+-- as the names of fresh columns do
+abbrev pub IsNameText : List ℕ → Type 0
+IsNameText text = IsTokenText Word text × IsShort Word (length text)
 
 -- what every program keeps
 pub record IsProgram (p : Program) : Type 0 where
   pub bodies : EachItem (λ t. BodyOver p.names t.body) p.items
   pub named : EachItem (λ t. Named p.names t.name t.body) p.items
   pub once : (n : ℕ) → NameAt p.names n (λ x. is_defined x.role ≡ true) → definitions n p.items ≡ 1
-  pub texts : AllDiffer p.names
-  pub plain : NoneFresh p.names
+  pub texts : Differ (map text_of p.names)
+  pub spelled : All (λ x. IsNameText x.text) p.names
   pub weight : p.weight ≡ names_weight p.names + items_weight p.items

@@ -2,9 +2,8 @@
 #![tactic(auto)]
 
 mod formula;
-mod place;
+pub mod laws;
 mod program;
 
 pub use formula::{Connective, Formula, NameId};
-pub use place::{Kind, Place};
 pub use program::{Body, Name, Order, ProgItem, Program, Role};

@@ -1,5 +1,5 @@
 use crate::formula::{Formula, NameId};
-use crate::place::{Kind, Place};
+use hys_ast::{Kind, Place};
 use hys_frac::{Frac, List, Text};
 use hys_lin::{Affine, Interval};
 
