@@ -34,6 +34,12 @@ fn largest() -> Frac {
     added(power, added(power, Frac::whole(1).neg()))
 }
 
+fn unit() -> Frac
+    ensures { whole_of 0 <ₙ result }
+{
+    Frac::whole(1)
+}
+
 // The tolerance 1/1000.
 fn tolerance() -> Frac
     ensures { whole_of 0 <ₙ result }
@@ -41,9 +47,9 @@ fn tolerance() -> Frac
     match Frac::new(1, 1000) {
         Some(number) => match number.cmp(Frac::whole(0)) {
             Ordering::Greater => number,
-            _ => Frac::whole(1),
+            _ => unit(),
         },
-        None => Frac::whole(1),
+        None => unit(),
     }
 }
 
