@@ -1,3 +1,17 @@
 pub mod PlaceSteps
 pub mod LexemeSteps
 pub mod Counting
+pub mod PrintLoops
+pub mod Spelled
+pub mod Regrouped
+pub mod Listed
+pub mod ValidTrees
+pub mod ValidParts
+pub mod ItemsAgain
+pub mod Blocks
+pub mod ValidSections
+pub mod SectionsAgain
+pub mod Unplaced
+pub mod SourceAgain
+pub mod Spines
+pub mod Needed

@@ -4,6 +4,9 @@ pub mod Tree
 pub mod Seen
 pub mod Grammar
 pub mod Nodes
+pub mod Bare
+pub mod Printed
+pub mod Spines
 pub mod Values
 pub mod Names
 pub mod Forms

@@ -1,0 +1,27 @@
+-- Printing an expression along its left operands: the first of them, and then what follows each.
+use Rattle.std.specs.Prelude.{ℕ, ◌≤◌, Bool, true, false, List, [], ◌∷◌}
+use Rattle.hys_lex.specs.Spaced.{Spelling}
+use Rattle.hys_ast.specs.Operators.{level_of}
+use Rattle.hys_ast.specs.Nodes.{nodes}
+use Rattle.hys_ast.specs.Tree.{Tree, Binary}
+use Rattle.hys_ast.specs.Printed.{binary_mark, left_strength, right_strength, is_loose, close_words, operand_words}
+
+-- what follows the left operand of an operator
+abbrev pub behind_left : Tree → List Spelling → List Spelling
+behind_left (Binary op a b place) rest = close_words (is_loose (left_strength (level_of op)) a) (binary_mark op ∷ operand_words (right_strength (level_of op)) b rest)
+behind_left _ rest = rest
+
+-- what follows the left operands of operators, each of them the left operand of the one before it
+abbrev pub behind : List Tree → List Spelling → List Spelling
+behind [] rest = rest
+behind (e ∷ es) rest = behind es (behind_left e rest)
+
+-- no operator between two operands
+abbrev pub is_single : Tree → Bool
+is_single (Binary op a b place) = false
+is_single _ = true
+
+-- no expression has more nodes
+abbrev pub Within : ℕ → List Tree → Type 0
+Within n [] = Unit {0}
+Within n (e ∷ es) = (nodes e ≤ n) × Within n es
