@@ -77,7 +77,7 @@ same_level_refl level.Compare = refl
 same_level_refl level.Sum = refl
 same_level_refl level.Term = refl
 
-same_level_true : (m n : Level) → same_level m n ≡ true → m ≡ n
+pub same_level_true : (m n : Level) → same_level m n ≡ true → m ≡ n
 same_level_true level.Arrow level.Arrow e = refl
 same_level_true level.Or level.Or e = refl
 same_level_true level.And level.And e = refl

@@ -9,3 +9,13 @@ pub mod CompleteSource
 pub mod SoundParts
 pub mod SoundSource
 pub mod Whole
+pub mod Near
+pub mod NearTurns
+pub mod NearExpr
+pub mod NearParts
+pub mod Stuck
+pub mod Viable
+pub mod ViableExpr
+pub mod ViableParts
+pub mod ViableSource
+pub mod OneFault

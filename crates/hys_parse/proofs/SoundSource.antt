@@ -160,7 +160,7 @@ interface_sound room (suc fuel) d ts p e =
       | inr w ↦ interface_joins d ts t.0 p w (interface_sound room fuel t.0.0 t.0.2 p (if_true t.0.1 _ _ _ w.more t.2))
     ]
 
-implementation_then : (k : TokenKind) (s : Section) → implementation_section k ≡ Some s → ((k ≡ token.Keyword keyword.AUX) × (s ≡ section.Aux)) ⊎ (item_section k ≡ Some s)
+pub implementation_then : (k : TokenKind) (s : Section) → implementation_section k ≡ Some s → ((k ≡ token.Keyword keyword.AUX) × (s ≡ section.Aux)) ⊎ (item_section k ≡ Some s)
 implementation_then token.Name s e = absurd cc
 implementation_then token.Literal s e = absurd cc
 implementation_then (token.Keyword k) s e = elim (cond_is (eqb k keyword.AUX) _ _ _ e) [

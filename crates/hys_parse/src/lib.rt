@@ -7,7 +7,10 @@ mod deep;
 mod descent;
 mod draft;
 mod item;
+pub mod laws;
 mod parser;
+#[cfg(test)]
+mod print_tests;
 mod section;
 mod stop;
 #[cfg(test)]

@@ -5,7 +5,7 @@ ghost use Rattle.hys_ast.specs.Seen.{source_of};
 ghost use Rattle.hys_ast.specs.Grammar.{IsTreeOf};
 ghost use Rattle.hys_parse.specs.Reading.{Gives};
 ghost use Rattle.hys_parse.specs.Sections.{whole_at};
-ghost use Rattle.hys_parse.specs.Depth.{IsFirstDeep};
+ghost use Rattle.hys_parse.specs.Depth.{IsFirstDeep, IsShallow};
 ghost use Rattle.hys_parse.specs.Cause.{IsCause};
 ghost use Rattle.hys_parse.specs.declared.parser.ParseFault.TheVariants.{Memory};
 
@@ -22,7 +22,7 @@ use std::alloc::{AllocError, Global};
 pub enum ParseFault {
     /// The token is the first whose depth is over 64.
     Deep(u32),
-    /// No tree goes on with the token.
+    /// No tree goes on with the token, whatever stands behind it.
     Syntax(u32),
     /// Out of memory.
     Memory,
@@ -62,13 +62,16 @@ fn place(tokens: &[Token], left: usize) -> u32
 /// # Errors
 ///
 /// `Deep` where a token is deeper than 64, whatever else is wrong; else `Syntax` where no tree
-/// derives the tokens.
+/// derives the tokens, with the first token that no tree goes on with, or their number where it is
+/// the end.
 pub fn parse(alloc: Global, tokens: &[Token], text: &[u8]) -> Result<Source, ParseFault>
     requires cut { Cut text.now tokens.now }
     requires small { length text.now < 2 ^ 32 - 1 }
     ensures ok { IfOk result (λ s. IsTreeOf text.now tokens.now (source_of s)) }
     ensures only { IfOk result (λ s. (tree : Tree) → IsTreeOf text.now tokens.now tree → tree ≡ source_of s) }
+    ensures shallow { IfOk result (λ _. IsShallow tokens.now) }
     ensures deep { (k : ℕ) → IsFirstDeep tokens.now k → IsErrOf result (ParseFault.Deep k) }
+    ensures accepts { (tree : Tree) → IsTreeOf text.now tokens.now tree → IsShallow tokens.now → IfErr result (λ e. e ≡ Memory) }
     ensures err { IfErr result (λ e. IsCause text.now tokens.now e) }
 {
     laws::spans(tokens, text);

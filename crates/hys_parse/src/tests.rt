@@ -70,6 +70,49 @@ fn outcomes(rt: HostRuntime) -> Result<(), Fail> {
     Ok(())
 }
 
+// What stands behind the first wrong token does not matter.
+#[test]
+fn behind_the_fault(rt: HostRuntime) -> Result<(), Fail> {
+    let alloc = rt.alloc();
+    let rows = [
+        (
+            "SYSTEM l { INTERFACE { INPUT { BOOL a, b, c; } } IMPLEMENTATION { AUX { BOOL d; } LOGIC { d = a -> b -> ",
+            "c; } } }",
+            31,
+        ),
+        (
+            "SYSTEM s { INTERFACE { STATE { } STATE ",
+            "{ } } IMPLEMENTATION { } }",
+            8,
+        ),
+        ("SYSTEM s { INTERFACE { STATE { REAL x [0 ] ", ", 1];", 11),
+        ("SYSTEM s { INTERFACE { OUTPUT { REAL y [ ", "0, 1];", 9),
+        (
+            "SYSTEM s { INTERFACE { } IMPLEMENTATION { MUST { x <= 1 <= ",
+            "2; } } }",
+            13,
+        ),
+        (
+            "SYSTEM s { INTERFACE { } IMPLEMENTATION { MUST { (REAL 1 ",
+            ") >= 0; } } }",
+            12,
+        ),
+        (
+            "SYSTEM s { INTERFACE { } IMPLEMENTATION { } } } ",
+            "SYSTEM",
+            10,
+        ),
+    ];
+    for (front, back, place) in rows {
+        let expected = Outcome::Fault(ParseFault::Syntax(place));
+        let mut text = String::from_str(alloc, front)?;
+        assert_eq!(rt; parsed(alloc, text.as_bytes()), expected, "{front}");
+        text.push_str(back)?;
+        assert_eq!(rt; parsed(alloc, text.as_bytes()), expected, "{front}{back}");
+    }
+    Ok(())
+}
+
 #[test]
 fn depths(rt: HostRuntime) -> Result<(), Fail> {
     let alloc = rt.alloc();

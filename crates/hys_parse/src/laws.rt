@@ -1,0 +1,18 @@
+//! What holds of the trees of tokens and of their faults, as calls that do nothing.
+
+ghost use Rattle.std.specs.Prelude.{◌≡◌, ℕ, List};
+ghost use Rattle.hys_lex.specs.declared.token.Token.{Token};
+ghost use Rattle.hys_ast.specs.Tree.{Source as Tree};
+ghost use Rattle.hys_ast.specs.Grammar.{IsTreeOf};
+ghost use Rattle.hys_parse.specs.Cause.{IsUngrammatical};
+
+/// At most one tree derives the tokens of a text.
+pub fn one_tree()
+    ensures { (text : List ℕ) (tokens : List Token) (a b : Tree) → IsTreeOf text tokens a → IsTreeOf text tokens b → a ≡ b }
+{}
+
+/// Tokens with a tree have no syntax fault, and others have at most one.
+pub fn one_fault()
+    ensures apart { (text : List ℕ) (tokens : List Token) (k : ℕ) (tree : Tree) → IsUngrammatical text tokens k → IsTreeOf text tokens tree → ⊥ }
+    ensures one { (text : List ℕ) (tokens : List Token) (j k : ℕ) → IsUngrammatical text tokens j → IsUngrammatical text tokens k → j ≡ k }
+{}
