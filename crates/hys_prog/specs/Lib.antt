@@ -1,3 +1,4 @@
 pub mod Formulas
 pub mod Programs
 pub mod Example
+pub mod Folding
