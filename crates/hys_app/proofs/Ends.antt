@@ -1,10 +1,15 @@
 -- From what a call says to what its callers say.
-use Rattle.std.proofs.Common.{◌≡◌, ℕ, ◌++◌, List, length, take, Option, None, Some, refl, sym, ap, ◌∙◌, inl, inr}
+use Rattle.std.proofs.Common.{◌≡◌, ℕ, ◌++◌, List, [], length, take, Option, None, Some, ◌<◌, refl, sym, ap, subst, ◌∙◌, inl, inr}
 use Rattle.std.proofs.Math.Seq.{take-length}
 use Rattle.std.proofs.lemmas.List.{append-nil}
-use Rattle.hys_io.specs.Outside.{Named, IfAppended, IfPut, IfTorn}
-use Rattle.hys_app.specs.Lines.{too_long_line}
-use Rattle.hys_app.specs.Ends.{IfPart, SomePart}
+use Rattle.hys_io.specs.Outside.{Named, IfAppended, IfPut, IfTorn, IfHolds}
+use Rattle.hys_sys.specs.Matrix.{matrix_text}
+use Rattle.hys_sys.specs.declared.system.System.{System}
+use Rattle.hys_compile.specs.declared.fault.SourceFault.{SourceFault}
+use Rattle.hys_app.specs.Lines.{read_line, refused_line}
+use Rattle.hys_compile.specs.declared.fault.LimitKind.TheVariants.{Bytes}
+use Rattle.hys_compile.specs.Text.{most_bytes, over_limit, IsCompiled, too_long}
+use Rattle.hys_app.specs.Ends.{IfPart, SomePart, IsRefused, CausedBy, CompiledFrom, Kept}
 
 appended_as : (old new : Option (List ℕ)) (xs ys : List ℕ) → xs ≡ ys → IfAppended old new xs → IfAppended old new ys
 appended_as None new xs ys e h = tt
@@ -31,5 +36,31 @@ pub same_torn : (old new : Option Named) (name bytes : List ℕ) → new ≡ old
 same_torn None new name bytes e = tt
 same_torn (Some files) new name bytes e = inl e
 
-pub none_some : (old : Option (List ℕ)) → SomePart old old
-none_some old = record { line = too_long_line; lawful = inl refl; part = none_part old too_long_line }
+pub none_some : (Has : SourceFault → Type 0) (Means : System → Type 0) (old : Option (List ℕ)) → SomePart Has Means old old
+none_some Has Means old = record { line = read_line []; lawful = inr (inl ([], refl)); part = none_part old (read_line []) }
+
+-- ---- from the bytes that were read to the source that the files tell
+-- what holds of the bytes read holds of the file
+pub of_file : (held : Option Named) (name text : List ℕ) (P : List ℕ → Type 0) → IfHolds held name (λ file. text ≡ file) → P text → IfHolds held name P
+of_file None name text P h p = tt
+of_file (Some files) name text P (file, there, e) p = (file, there, subst P e p)
+
+-- a file over the limit is a cause of its own
+pub over_file : (held : Option Named) (name : List ℕ) → IfHolds held name (λ file. most_bytes < length file) → CausedBy held name (over_limit Bytes)
+over_file None name h = tt
+over_file (Some files) name (file, there, more) = (file, there, too_long more)
+
+pub compiled_from : (held : Option Named) (name text : List ℕ) (system : System) → IfHolds held name (λ file. text ≡ file) → IsCompiled text system → CompiledFrom held name system
+compiled_from held name text system h c = (c.lawful, of_file held name text (λ file. IsCompiled file system) h c)
+
+pub kept_from : (held between held' : Option Named) (name target text seen : List ℕ) → between ≡ held → seen ≡ text → IfHolds held name (λ file. text ≡ file) → Kept (IsCompiled seen) between held' target → Kept (CompiledFrom held name) held held' target
+kept_from held between held' name target text seen e s h (inl same) = inl (same ∙ e)
+kept_from held between held' name target text seen e s h (inr (system, c, torn)) =
+    inr (system, compiled_from held name text system h (subst (λ t. IsCompiled t system) s c), subst (λ b. IfTorn b held' target (matrix_text system)) e torn)
+
+-- a part of a fault's line
+pub fault_part : (held : Option Named) (name : List ℕ) (fault : SourceFault) (old new : Option (List ℕ)) → CausedBy held name fault → IfPart old new (refused_line fault) → SomePart (CausedBy held name) (CompiledFrom held name) old new
+fault_part held name fault old new h p = record { line = refused_line fault; lawful = inl (fault, h, refl); part = p }
+
+pub fault_said : (Has : SourceFault → Type 0) (fault : SourceFault) (old new : Option (List ℕ)) → Has fault → IfAppended old new (refused_line fault) → IsRefused Has old new
+fault_said Has fault old new h said = record { fault = fault; cause = h; said = said }

@@ -1,61 +1,72 @@
 -- What stands in files and in a sink when a run has ended.
-use Rattle.std.specs.Prelude.{◌≡◌, ℕ, ◌<◌, ◌≤◌, ◌⊎◌, List, length, take, Option}
+use Rattle.std.specs.Prelude.{◌≡◌, ℕ, ◌⊎◌, List, take, Option, Some}
+use Rattle.std.specs.FinMap as map
 use Rattle.hys_io.specs.Outside.{Named, IfAppended, IfPut, IfTorn, IfHolds}
 use Rattle.hys_sys.specs.System.{IsSystem}
 use Rattle.hys_sys.specs.Matrix.{matrix_text}
 use Rattle.hys_sys.specs.declared.system.System.{System}
-use Rattle.hys_app.specs.Lines.{read_line, too_long_line, not_yet_line, compiled_line}
+use Rattle.hys_compile.specs.declared.fault.SourceFault.{SourceFault}
+use Rattle.hys_compile.specs.Text.{IsCause, IsCompiled, IsPlainText}
+use Rattle.hys_app.specs.Lines.{read_line, refused_line, compiled_line}
 
 -- where the text is told: a prefix of the line was appended
 abbrev pub IfPart : Option (List ℕ) → Option (List ℕ) → List ℕ → Type 0
 IfPart old new line = (n : ℕ) × IfAppended old new (take n line)
 
--- the most bytes of a source
-abbrev pub source_limit : ℕ
-source_limit = 1048576
+-- ---- what a source means
+-- where the files are told: the fault is a cause to refuse the bytes of the source
+abbrev pub CausedBy : Option Named → List ℕ → SourceFault → Type 0
+CausedBy held source fault = IfHolds held source (λ file. IsCause file fault)
 
--- the line of a refused source: where the files are told, the source has more bytes than the limit and the line says so, or it hasn't and isn't one that is built yet
-abbrev pub RefusedBy : Option Named → List ℕ → List ℕ → Type 0
-RefusedBy held source line =
-    (IfHolds held source (λ file. source_limit < length file) × (line ≡ too_long_line))
-    ⊎ (IfHolds held source (λ file. length file ≤ source_limit) × (line ≡ not_yet_line))
+-- the system is lawful and, where the files are told, exact for the accepted source with these bytes
+abbrev pub CompiledFrom : Option Named → List ℕ → System → Type 0
+CompiledFrom held source system = IsSystem system × IfHolds held source (λ file. IsCompiled file system)
 
--- where the text is told: the line of a refused source was appended
-pub record IsRefused (held : Option Named) (written written' : Option (List ℕ)) (source : List ℕ) : Type 0 where
-  pub line : List ℕ
-  pub cause : RefusedBy held source line
-  pub said : IfAppended written written' line
+-- the files are told, and the bytes of the source are a plain text
+pub record HoldsPlain (held : Option Named) (source : List ℕ) : Type 0 where
+  pub files : Named
+  pub file : List ℕ
+  pub told : held ≡ Some files
+  pub there : map.get files source ≡ Some file
+  pub plain : IsPlainText file
 
--- the lines that a run may print, beside that of its forms
-abbrev pub IsLine : List ℕ → Type 0
-IsLine line =
-    (line ≡ too_long_line) ⊎ (line ≡ not_yet_line)
-    ⊎ ((name : List ℕ) × (line ≡ read_line name)) ⊎ ((system : System) × IsSystem system × (line ≡ compiled_line system))
-
--- where the text is told: a prefix of one of the lines was appended
-pub record SomePart (old new : Option (List ℕ)) : Type 0 where
-  pub line : List ℕ
-  pub lawful : IsLine line
-  pub part : IfPart old new line
-
--- where the files are told: nothing has changed, or the target alone, which holds a prefix of a system's matrix text
-abbrev pub Kept : Option Named → Option Named → List ℕ → Type 0
-Kept held held' target = (held' ≡ held) ⊎ ((system : System) × IsSystem system × IfTorn held held' target (matrix_text system))
-
--- where the files are told: nothing has changed, or the target alone, which holds a system's matrix text
-abbrev pub Whole : Option Named → Option Named → List ℕ → Type 0
-Whole held held' target = (held' ≡ held) ⊎ ((system : System) × IsSystem system × IfPut held held' target (matrix_text system))
+-- ---- how a run ends, by the faults and the systems that the source has
+-- where the text is told: the line of a fault was appended
+pub record IsRefused (Has : SourceFault → Type 0) (written written' : Option (List ℕ)) : Type 0 where
+  pub fault : SourceFault
+  pub cause : Has fault
+  pub said : IfAppended written written' (refused_line fault)
 
 -- the target holds the matrix text of a system, whose columns and rows the line counts
-pub record IsPut (held held' : Option Named) (written written' : Option (List ℕ)) (target : List ℕ) : Type 0 where
+pub record IsPut (Means : System → Type 0) (held held' : Option Named) (written written' : Option (List ℕ)) (target : List ℕ) : Type 0 where
   pub system : System
-  pub lawful : IsSystem system
+  pub meant : Means system
   pub put : IfPut held held' target (matrix_text system)
   pub said : IfAppended written written' (compiled_line system)
 
+-- where the files are told: nothing has changed, or the target alone, which holds a prefix of a system's matrix text
+abbrev pub Kept : (System → Type 0) → Option Named → Option Named → List ℕ → Type 0
+Kept Means held held' target = (held' ≡ held) ⊎ ((system : System) × Means system × IfTorn held held' target (matrix_text system))
+
+-- where the files are told: nothing has changed, or the target alone, which holds a system's matrix text
+abbrev pub Whole : (System → Type 0) → Option Named → Option Named → List ℕ → Type 0
+Whole Means held held' target = (held' ≡ held) ⊎ ((system : System) × Means system × IfPut held held' target (matrix_text system))
+
+-- the lines that a run with a form may print
+abbrev pub IsLine : (SourceFault → Type 0) → (System → Type 0) → List ℕ → Type 0
+IsLine Has Means line =
+    ((fault : SourceFault) × Has fault × (line ≡ refused_line fault)) ⊎ ((name : List ℕ) × (line ≡ read_line name))
+    ⊎ ((system : System) × Means system × (line ≡ compiled_line system))
+
+-- where the text is told: a prefix of one of the lines was appended
+pub record SomePart (Has : SourceFault → Type 0) (Means : System → Type 0) (old new : Option (List ℕ)) : Type 0 where
+  pub line : List ℕ
+  pub lawful : IsLine Has Means line
+  pub part : IfPart old new line
+
 -- the two texts of a system: its matrix text, and the line that counts its columns and rows
-pub record AreTexts (text line : List ℕ) : Type 0 where
+pub record AreTexts (Means : System → Type 0) (text line : List ℕ) : Type 0 where
   pub system : System
-  pub lawful : IsSystem system
+  pub meant : Means system
   pub matrix : text ≡ matrix_text system
   pub counts : line ≡ compiled_line system

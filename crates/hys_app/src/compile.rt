@@ -1,15 +1,14 @@
-ghost use Rattle.std.specs.Prelude.{◌≡◌, ◌≤◌, ◌⊎◌, IfOk, length, string_bytes};
+ghost use Rattle.std.specs.Prelude.{◌≡◌, ◌≢◌, ◌≤◌, ◌⊎◌, IfOk, IfErr, length, string_bytes};
 ghost use Rattle.hys_io.specs.Outside.{Rose, IfAppended, IfPut, IfTorn};
-ghost use Rattle.hys_app.specs.Lines.{not_yet_line};
-ghost use Rattle.hys_plain.specs.Parts.{AreParts};
-ghost use Rattle.hys_app.specs.Ends.{AreTexts, IfPart, IsPut, Kept, SomePart, Whole, source_limit};
+ghost use Rattle.hys_app.specs.Lines.{refused_line};
+ghost use Rattle.hys_compile.specs.Text.{most_bytes, no_memory, IsCause, IsRefusal, IsCompiled, IsPlainText};
+ghost use Rattle.hys_app.specs.Ends.{AreTexts, IfPart, IsPut, IsRefused, Kept, SomePart, Whole};
 
 use crate::Status;
-use crate::build::plain_system;
-use crate::lines::{compiled, not_yet};
+use crate::lines::{compiled, refused};
 use crate::say::say;
+use hys_compile::{Detail, SourceFault, compile};
 use hys_io::{Failure, Files, Sink};
-use hys_plain::{PlainFault, PlainParts, plain};
 use hys_sys::write_system;
 use std::alloc::{AllocError, Global};
 
@@ -32,6 +31,8 @@ fn put_and_say<F: Files, S: Sink>(
     ensures reads { F.read_faults files.new ≡ F.read_faults files.old }
     ensures puts { F.put_faults files.old ≤ F.put_faults files.new }
     ensures faults { S.faults out.old ≤ S.faults out.new }
+    ensures calm_puts { result ≢ Status.Write → F.put_faults files.new ≡ F.put_faults files.old }
+    ensures calm_prints { result ≢ Status.Write → S.faults out.new ≡ S.faults out.old }
 {
     match files.put(target, text) {
         Err(Failure::Fault) => Status::Write,
@@ -40,47 +41,67 @@ fn put_and_say<F: Files, S: Sink>(
     }
 }
 
+// The matrix text of the source's system, and the line that counts its columns and rows.
+fn texts(alloc: Global, text: &[u8]) -> Result<(Vec<u8>, String), SourceFault>
+    requires { length text.now ≤ most_bytes }
+    ensures done { IfOk result (λ p. AreTexts (IsCompiled text.now) p.0.items (string_bytes p.1)) }
+    ensures refused { IfErr result (IsRefusal text.now) }
+    ensures accepts { IsPlainText text.now → IfErr result (λ f. f ≡ no_memory) }
+{
+    let system = compile(alloc, text)?;
+    let matrix = write_system(alloc, &system)?;
+    let line = compiled(alloc, &system)?;
+    Ok((matrix, line))
+}
+
+// Prints the line of a refused source.
+pub fn refuse<S: Sink>(alloc: Global, fault: SourceFault, out: &mut S) -> Status
+    ensures others { (result ≡ Status.Source) ⊎ (result ≡ Status.Write) ⊎ (result ≡ Status.Memory) }
+    ensures said { result ≡ Status.Source → IfAppended (S.written out.old) (S.written out.new) (refused_line fault) }
+    ensures cause { result ≡ Status.Write → Rose (S.faults out.old) (S.faults out.new) }
+    ensures part { IfPart (S.written out.old) (S.written out.new) (refused_line fault) }
+    ensures faults { S.faults out.old ≤ S.faults out.new }
+    ensures calm { result ≢ Status.Write → S.faults out.new ≡ S.faults out.old }
+{
+    match refused(alloc, fault) {
+        Ok(line) => say(out, line.as_str(), Status::Source),
+        Err(AllocError) => Status::Memory,
+    }
+}
+
 // Compiles the text, puts the matrix text under the target, and prints the line.
 #[tactic(auto, using(crate::proofs::Ends::none_some))]
-pub fn compile<F: Files, S: Sink>(
+pub fn compile_text<F: Files, S: Sink>(
     alloc: Global,
     text: &[u8],
     target: &str,
     files: &mut F,
     out: &mut S,
 ) -> Status
-    requires { length text.now ≤ source_limit }
+    requires { length text.now ≤ most_bytes }
     ensures others { (result ≡ Status.Done) ⊎ (result ≡ Status.Write) ⊎ (result ≡ Status.Source) ⊎ (result ≡ Status.Memory) }
-    ensures done { result ≡ Status.Done → IsPut (F.held files.old) (F.held files.new) (S.written out.old) (S.written out.new) target.now }
-    ensures refused { result ≡ Status.Source → IfAppended (S.written out.old) (S.written out.new) not_yet_line }
+    ensures done { result ≡ Status.Done → IsPut (IsCompiled text.now) (F.held files.old) (F.held files.new) (S.written out.old) (S.written out.new) target.now }
+    ensures refused { result ≡ Status.Source → IsRefused (IsCause text.now) (S.written out.old) (S.written out.new) }
+    ensures accepts { IsPlainText text.now → result ≢ Status.Source }
     ensures same { result ≡ Status.Source → F.held files.new ≡ F.held files.old }
-    ensures calm { result ≡ Status.Source → F.put_faults files.new ≡ F.put_faults files.old }
     ensures cause { result ≡ Status.Write → (Rose (F.put_faults files.old) (F.put_faults files.new) ⊎ Rose (S.faults out.old) (S.faults out.new)) }
-    ensures kept { Kept (F.held files.old) (F.held files.new) target.now }
-    ensures part { SomePart (S.written out.old) (S.written out.new) }
-    ensures whole { result ≡ Status.Memory → Whole (F.held files.old) (F.held files.new) target.now }
+    ensures kept { Kept (IsCompiled text.now) (F.held files.old) (F.held files.new) target.now }
+    ensures part { SomePart (IsCause text.now) (IsCompiled text.now) (S.written out.old) (S.written out.new) }
+    ensures whole { result ≡ Status.Memory → Whole (IsCompiled text.now) (F.held files.old) (F.held files.new) target.now }
     ensures reads { F.read_faults files.new ≡ F.read_faults files.old }
     ensures puts { F.put_faults files.old ≤ F.put_faults files.new }
     ensures faults { S.faults out.old ≤ S.faults out.new }
+    ensures calm_puts { result ≢ Status.Write → F.put_faults files.new ≡ F.put_faults files.old }
+    ensures calm_prints { result ≢ Status.Write → S.faults out.new ≡ S.faults out.old }
 {
-    let parts = match plain(alloc, text) {
-        Ok(parts) => parts,
-        Err(PlainFault::NotYet) => return say(out, not_yet(), Status::Source),
-        Err(PlainFault::Memory) => return Status::Memory,
-    };
-    match texts(alloc, parts) {
+    match texts(alloc, text) {
         Ok((matrix, line)) => put_and_say(files, target, &matrix, out, line.as_str()),
-        Err(AllocError) => Status::Memory,
+        Err(
+            SourceFault {
+                detail: Detail::Memory,
+                ..
+            },
+        ) => Status::Memory,
+        Err(fault) => refuse(alloc, fault, out),
     }
-}
-
-// The matrix text of a plain source's system, and the line that counts its columns and rows.
-fn texts(alloc: Global, parts: PlainParts) -> Result<(Vec<u8>, String), AllocError>
-    requires { AreParts parts }
-    ensures { IfOk result (λ p. AreTexts p.0.items (string_bytes p.1)) }
-{
-    let system = plain_system(alloc, parts)?;
-    let matrix = write_system(alloc, &system)?;
-    let line = compiled(alloc, &system)?;
-    Ok((matrix, line))
 }

@@ -1,7 +1,6 @@
 //! What the program does with its words, over files and a sink.
 #![tactic(auto)]
 
-mod build;
 mod compile;
 mod lines;
 mod say;

@@ -15,6 +15,7 @@ pub fn say<S: Sink>(out: &mut S, line: &str, status: Status) -> Status
     ensures part { IfPart (S.written out.old) (S.written out.new) line.now }
     ensures cause { result ≡ Status.Write → Rose (S.faults out.old) (S.faults out.new) }
     ensures counted { S.faults out.old ≤ S.faults out.new }
+    ensures calm { result ≢ Status.Write → S.faults out.new ≡ S.faults out.old }
 {
     match write_all(out, line.as_bytes()) {
         Ok(()) => status,

@@ -14,7 +14,9 @@ const UNENDED: &str =
 
 const DONE: &[u8] = b"compiled: 2 columns, 0 rows\n";
 
-const NOT_YET: &[u8] = b"source refused: 19 not yet at 1:1\n";
+const OPEN_AT_END: &[u8] = b"source refused: 4 syntax at 1:122\n";
+
+const EMPTY: &[u8] = b"source refused: 4 syntax at 1:1\n";
 
 const USAGE: &[u8] =
     b"usage: hysdel compile SRC MLD | sim SRC START INPUTS OUT | plan SRC REQ ANS | check MLD REQ ANS\n";
@@ -52,8 +54,8 @@ fn statuses(rt: HostRuntime) -> Result<(), Fail> {
         ),
         (compile, INTEGRATOR, 3, 0, Status::Write, b"", b"old"),
         (compile, INTEGRATOR, 0, 1, Status::Write, b"", MATRIX),
-        (compile, UNENDED, 0, 0, Status::Source, NOT_YET, b"old"),
-        (compile, "", 0, 0, Status::Source, NOT_YET, b"old"),
+        (compile, UNENDED, 0, 0, Status::Source, OPEN_AT_END, b"old"),
+        (compile, "", 0, 0, Status::Source, EMPTY, b"old"),
         (compile, UNENDED, 0, 1, Status::Write, b"", b"old"),
         (
             ["compile", "c.hys", "b.json"].as_slice(),
@@ -109,8 +111,11 @@ fn statuses(rt: HostRuntime) -> Result<(), Fail> {
 fn sources_at_the_limit(rt: HostRuntime) -> Result<(), Fail> {
     let alloc = rt.alloc();
     for (len, printed) in [
-        (1_048_576, NOT_YET),
-        (1_048_577, b"source refused: 18 limit bytes\n".as_slice()),
+        (
+            1_048_576,
+            b"source refused: 4 syntax at 1:1048577\n".as_slice(),
+        ),
+        (1_048_577, b"source refused: 18 limit bytes\n"),
     ] {
         let mut blanks = Vec::new(alloc);
         blanks.resize(len, b' ')?;
@@ -123,6 +128,42 @@ fn sources_at_the_limit(rt: HostRuntime) -> Result<(), Fail> {
         assert_eq!(rt; ended, Status::Source);
         assert_eq!(rt; out.bytes(), printed);
         assert!(rt; files.get("b.json").is_none());
+    }
+    Ok(())
+}
+
+#[test]
+fn refusals(rt: HostRuntime) -> Result<(), Fail> {
+    let rows = [
+        ("@", "source refused: 1 byte at 1:1\n"),
+        ("SYSTEM s { /* ", "source refused: 2 comment at 1:12\n"),
+        (
+            "SYSTEM s {\n 0.12345678901234567890123456789012 }",
+            "source refused: 3 long at 2:2\n",
+        ),
+        ("SYSTEM s", "source refused: 4 syntax at 1:9\n"),
+        (
+            "SYSTEM l { INTERFACE { INPUT { BOOL a, b, c; } }\nIMPLEMENTATION { AUX { BOOL d; } LOGIC {\nd = a -> b -> c;\n} } }",
+            "source refused: 4 syntax at 3:12\n",
+        ),
+        (
+            "SYSTEM v { INTERFACE { PARAMETER { } } IMPLEMENTATION { } }",
+            "source refused: 19 not yet at 1:24\n",
+        ),
+        (
+            "SYSTEM t { INTERFACE { STATE { REAL x [3, 2]; } } IMPLEMENTATION { CONTINUOUS { x = x; } } }",
+            "source refused: 19 not yet at 1:1\n",
+        ),
+    ];
+    let alloc = rt.alloc();
+    for (source, printed) in rows {
+        let mut files = files(alloc, source, 0)?;
+        let mut out = MemSink::new(alloc, Vec::new(alloc));
+        let given = words(alloc, &["compile", "b.hys", "b.json"])?;
+        let ended = run(alloc, &given, &mut files, &mut out);
+        assert_eq!(rt; ended, Status::Source, "{source}");
+        assert_eq!(rt; out.bytes(), printed.as_bytes(), "{source}");
+        assert_eq!(rt; files.get("b.json").unwrap_or(b"none"), b"old".as_slice());
     }
     Ok(())
 }
@@ -179,7 +220,10 @@ fn next_values(rt: HostRuntime) -> Result<(), Fail> {
         ("2x", "old"),
         ("x; x = u", "old"),
         ("x; u = x", "old"),
-        ("x /* a comment */", "old"),
+        (
+            "x /* a comment */ // and a line\n",
+            "\"next\":[{\"constant\":\"0\",\"terms\":[[0,\"1\"]]}]",
+        ),
     ];
     let alloc = rt.alloc();
     for (right, wanted) in rows {

@@ -1,19 +1,17 @@
-ghost use Rattle.std.specs.Prelude.{◌≡◌, ◌≤◌, ◌⊎◌, List, ℕ, Some, None, length, map, string_bytes};
-ghost use Rattle.hys_io.specs.Outside.{Rose, IfAppended, IfHolds};
+ghost use Rattle.std.specs.Prelude.{◌≡◌, ◌≢◌, ◌≤◌, ◌⊎◌, List, ℕ, Some, None, map, string_bytes};
+ghost use Rattle.hys_io.specs.Outside.{Rose, IfAppended};
 ghost use Rattle.hys_app.specs.Words.{form_of};
 ghost use Rattle.hys_app.specs.Lines.{usage_line, read_line};
-ghost use Rattle.hys_app.specs.Ends.{IfPart, IsPut, IsRefused, Kept, SomePart, Whole, source_limit};
+ghost use Rattle.hys_app.specs.Ends.{CausedBy, CompiledFrom, HoldsPlain, IfPart, IsPut, IsRefused, Kept, SomePart, Whole};
 
 use crate::Status;
-use crate::compile::compile;
-use crate::lines::{read_failed, too_long, usage};
+use crate::compile::{compile_text, refuse};
+use crate::lines::{read_failed, usage};
 use crate::say::say;
 use crate::words::compile_form;
+use hys_compile::{LimitKind, MOST_BYTES, SourceFault};
 use hys_io::{Files, ReadFault, Sink, read_all};
 use std::alloc::Global;
-
-// The most bytes of a source.
-const SOURCE_LIMIT: u64 = 1_048_576;
 
 /// Does what the words after the program's name say, and answers how that ended.
 ///
@@ -48,32 +46,36 @@ pub fn run<F: Files, S: Sink>(
     ensures puts { F.put_faults files.old ≤ F.put_faults files.new }
     ensures faults { S.faults out.old ≤ S.faults out.new }
 
+    // No failure of the outside is answered otherwise, but that a line may not be printed then, or not be made for want of memory.
+    ensures calm_reads { result ≢ Status.Read → result ≢ Status.Write → result ≢ Status.Memory → F.read_faults files.new ≡ F.read_faults files.old }
+    ensures calm_puts { result ≢ Status.Write → F.put_faults files.new ≡ F.put_faults files.old }
+    ensures calm_prints { result ≢ Status.Write → S.faults out.new ≡ S.faults out.old }
+
     // A read that failed: nothing is put, and the line names the source.
     ensures read_held { result ≡ Status.Read → F.held files.new ≡ F.held files.old }
-    ensures read_puts { result ≡ Status.Read → F.put_faults files.new ≡ F.put_faults files.old }
     ensures read_said { (source target : List ℕ) → form_of (map string_bytes words.now.items) ≡ Some (source, target) →
         result ≡ Status.Read → IfAppended (S.written out.old) (S.written out.new) (read_line source) }
 
-    // A source that is refused: nothing is put, and the line has the cause.
+    // A source that is refused: nothing is put, and the line has the cause. A plain source isn't refused.
     ensures refused_held { result ≡ Status.Source → F.held files.new ≡ F.held files.old }
-    ensures refused_puts { result ≡ Status.Source → F.put_faults files.new ≡ F.put_faults files.old }
     ensures refused { (source target : List ℕ) → form_of (map string_bytes words.now.items) ≡ Some (source, target) →
-        result ≡ Status.Source → IsRefused (F.held files.old) (S.written out.old) (S.written out.new) source }
+        result ≡ Status.Source → IsRefused (CausedBy (F.held files.old) source) (S.written out.old) (S.written out.new) }
+    ensures accepts { (source target : List ℕ) → form_of (map string_bytes words.now.items) ≡ Some (source, target) →
+        HoldsPlain (F.held files.old) source → result ≢ Status.Source }
 
-    // All is done: the target holds the matrix text of a system, and the line counts its columns and rows.
+    // All is done: the source is plain and the target holds the matrix text of a system that is exact for it, whose columns and rows
+    // the line counts.
     ensures done { (source target : List ℕ) → form_of (map string_bytes words.now.items) ≡ Some (source, target) →
-        result ≡ Status.Done → IsPut (F.held files.old) (F.held files.new) (S.written out.old) (S.written out.new) target }
-    ensures short { (source target : List ℕ) → form_of (map string_bytes words.now.items) ≡ Some (source, target) →
-        result ≡ Status.Done → IfHolds (F.held files.old) source (λ file. length file ≤ source_limit) }
+        result ≡ Status.Done → IsPut (CompiledFrom (F.held files.old) source) (F.held files.old) (F.held files.new) (S.written out.old) (S.written out.new) target }
 
     // Whatever the end: at most the target has changed, and it holds its old bytes or a prefix of a matrix text;
     // after want of memory it holds its old bytes or a whole one. A part of one line at most is printed.
     ensures kept { (source target : List ℕ) → form_of (map string_bytes words.now.items) ≡ Some (source, target) →
-        Kept (F.held files.old) (F.held files.new) target }
+        Kept (CompiledFrom (F.held files.old) source) (F.held files.old) (F.held files.new) target }
     ensures whole { (source target : List ℕ) → form_of (map string_bytes words.now.items) ≡ Some (source, target) →
-        result ≡ Status.Memory → Whole (F.held files.old) (F.held files.new) target }
+        result ≡ Status.Memory → Whole (CompiledFrom (F.held files.old) source) (F.held files.old) (F.held files.new) target }
     ensures part { (source target : List ℕ) → form_of (map string_bytes words.now.items) ≡ Some (source, target) →
-        SomePart (S.written out.old) (S.written out.new) }
+        SomePart (CausedBy (F.held files.old) source) (CompiledFrom (F.held files.old) source) (S.written out.old) (S.written out.new) }
 {
     match compile_form(words) {
         None => say(out, usage(), Status::Usage),
@@ -96,25 +98,26 @@ fn read_and_compile<F: Files, S: Sink>(
     ensures reads { F.read_faults files.old ≤ F.read_faults files.new }
     ensures puts { F.put_faults files.old ≤ F.put_faults files.new }
     ensures faults { S.faults out.old ≤ S.faults out.new }
+    ensures calm_reads { result ≢ Status.Read → result ≢ Status.Write → result ≢ Status.Memory → F.read_faults files.new ≡ F.read_faults files.old }
+    ensures calm_puts { result ≢ Status.Write → F.put_faults files.new ≡ F.put_faults files.old }
+    ensures calm_prints { result ≢ Status.Write → S.faults out.new ≡ S.faults out.old }
     ensures read_held { result ≡ Status.Read → F.held files.new ≡ F.held files.old }
-    ensures read_puts { result ≡ Status.Read → F.put_faults files.new ≡ F.put_faults files.old }
     ensures read_said { result ≡ Status.Read → IfAppended (S.written out.old) (S.written out.new) (read_line source.now) }
     ensures refused_held { result ≡ Status.Source → F.held files.new ≡ F.held files.old }
-    ensures refused_puts { result ≡ Status.Source → F.put_faults files.new ≡ F.put_faults files.old }
-    ensures refused { result ≡ Status.Source → IsRefused (F.held files.old) (S.written out.old) (S.written out.new) source.now }
-    ensures done { result ≡ Status.Done → IsPut (F.held files.old) (F.held files.new) (S.written out.old) (S.written out.new) target.now }
-    ensures short { result ≡ Status.Done → IfHolds (F.held files.old) source.now (λ file. length file ≤ source_limit) }
-    ensures kept { Kept (F.held files.old) (F.held files.new) target.now }
-    ensures whole { result ≡ Status.Memory → Whole (F.held files.old) (F.held files.new) target.now }
-    ensures part { SomePart (S.written out.old) (S.written out.new) }
+    ensures refused { result ≡ Status.Source → IsRefused (CausedBy (F.held files.old) source.now) (S.written out.old) (S.written out.new) }
+    ensures accepts { HoldsPlain (F.held files.old) source.now → result ≢ Status.Source }
+    ensures done { result ≡ Status.Done → IsPut (CompiledFrom (F.held files.old) source.now) (F.held files.old) (F.held files.new) (S.written out.old) (S.written out.new) target.now }
+    ensures kept { Kept (CompiledFrom (F.held files.old) source.now) (F.held files.old) (F.held files.new) target.now }
+    ensures whole { result ≡ Status.Memory → Whole (CompiledFrom (F.held files.old) source.now) (F.held files.old) (F.held files.new) target.now }
+    ensures part { SomePart (CausedBy (F.held files.old) source.now) (CompiledFrom (F.held files.old) source.now) (S.written out.old) (S.written out.new) }
 {
-    match read_all(alloc, files, source, SOURCE_LIMIT) {
+    match read_all(alloc, files, source, MOST_BYTES) {
         Err(ReadFault::Fault) => match read_failed(alloc, source) {
             Ok(line) => say(out, line.as_str(), Status::Read),
             Err(_) => Status::Memory,
         },
-        Err(ReadFault::TooLong) => say(out, too_long(), Status::Source),
+        Err(ReadFault::TooLong) => refuse(alloc, SourceFault::over(LimitKind::Bytes), out),
         Err(ReadFault::Memory) => Status::Memory,
-        Ok(text) => compile(alloc, &text, target, files, out),
+        Ok(text) => compile_text(alloc, &text, target, files, out),
     }
 }

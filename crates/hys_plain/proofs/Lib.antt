@@ -1,3 +1,14 @@
-pub mod Terms
-pub mod Apart
+pub mod Literals
+pub mod Tokens
+pub mod Shapes
+pub mod Walks
+pub mod Names
+pub mod Once
+pub mod Looking
 pub mod Ends
+pub mod Alls
+pub mod Linear
+pub mod Judged
+pub mod Terms
+pub mod Columns
+pub mod Parted

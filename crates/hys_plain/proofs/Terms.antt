@@ -1,9 +1,11 @@
 -- A term behind terms of lower columns.
-use Rattle.std.proofs.Common.{◌≡◌, ℕ, ◌+◌, ◌<◌, List, [], ◌∷◌, ◌++◌, arith, ap, pos}
+use Rattle.std.proofs.Common.{◌≡◌, ℕ, ◌+◌, ◌<◌, List, [], ◌∷◌, ◌++◌, arith, ap, ◌∙◌, sym, pos}
 use Rattle.hys_number.specs.Gcd.{gcd}
 use Rattle.hys_number.specs.Number.{Number, make}
-use Rattle.hys_number.specs.Ops.{whole}
-use Rattle.hys_lin.specs.Sums.{AreTerms, EachColumn}
+use Rattle.hys_number.specs.Ops.{◌+ₙ◌, ◌*ₙ◌, whole}
+use Rattle.hys_number.proofs.Inverse.{zero_num}
+use Rattle.hys_number.proofs.Field.{add_zero, add_comm, add_assoc, mul_comm, mul_zero}
+use Rattle.hys_lin.specs.Sums.{AreTerms, EachColumn, sum_of}
 use Rattle.hys_lin.specs.declared.form.Term.{Term}
 use Rattle.hys_lin.specs.Over.{AreTermsOver}
 
@@ -34,3 +36,17 @@ below_push n ts t h e k = record {
 pub not_zero : (a : Number) → ¬ (a.num ≡ pos 0) → ¬ (a ≡ whole 0)
 unfolding whole make gcd
 not_zero a h e = h (ap (λ (x : Number). x.num) e)
+
+-- ---- sums
+pub sum_push : (ts : List Term) (t : Term) (v : ℕ → Number) → sum_of (ts ++ t ∷ []) v ≡ sum_of ts v +ₙ t.factor *ₙ v t.column
+sum_push [] t v = add_comm (t.factor *ₙ v t.column) (whole 0)
+sum_push (s ∷ ts) t v = ap (λ (x : Number). s.factor *ₙ v s.column +ₙ x) (sum_push ts t v) ∙ sym (add_assoc (s.factor *ₙ v s.column) (sum_of ts v) (t.factor *ₙ v t.column))
+
+zero_is : (a : Number) → a.num ≡ pos 0 → a ≡ whole 0
+zero_is a h = (zero_num a).0 h
+
+pub no_term : (ts : List Term) (c : ℕ) (a : Number) (v : ℕ → Number) → a.num ≡ pos 0 → sum_of ts v ≡ sum_of ts v +ₙ a *ₙ v c
+no_term ts c a v h = sym (ap (λ (x : Number). sum_of ts v +ₙ x *ₙ v c) (zero_is a h) ∙ ap (λ (x : Number). sum_of ts v +ₙ x) (mul_comm (whole 0) (v c) ∙ mul_zero (v c)) ∙ add_zero (sum_of ts v))
+
+pub one_more : (ts : List Term) (t : Term) (c : ℕ) (a : Number) (v : ℕ → Number) → t.column ≡ c → t.factor ≡ a → sum_of (ts ++ t ∷ []) v ≡ sum_of ts v +ₙ a *ₙ v c
+one_more ts t c a v e f = sum_push ts t v ∙ ap (λ (x : Number). sum_of ts v +ₙ x *ₙ v t.column) f ∙ ap (λ (x : ℕ). sum_of ts v +ₙ a *ₙ v x) e

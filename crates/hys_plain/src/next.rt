@@ -1,68 +1,76 @@
-ghost use Rattle.std.specs.Prelude.{◌≡◌, ◌<◌, length, All, IfOk, IfSome};
-ghost use Rattle.hys_plain.specs.Parts.{IsNext};
-ghost use Rattle.hys_lin.specs.Over.{AreTermsOver};
+//! The next values of the states.
 
-use hys_frac::{Frac, List};
+ghost use Rattle.std.specs.Prelude.{◌≡◌, ◌≤◌, ℕ, List, true, All, length, map, IsTrue, IfOk};
+ghost use Rattle.std.specs.Str.{bytes_eq};
+ghost use Rattle.std.specs.List.{AllByRecursion, list_any, count_by};
+ghost use Rattle.hys_lin.specs.Over.{AreTermsOver};
+ghost use Rattle.hys_ast.specs.Seen.{tree_of, item_of, source_of};
+ghost use Rattle.hys_ast.specs.Names.{names, texts, is_state, is_input};
+ghost use Rattle.hys_ast.specs.Typed.{defines};
+ghost use Rattle.hys_ast.specs.Circular.{SomeItem};
+ghost use Rattle.hys_plain.specs.Meant.{columns, IsNextOf, AreNext};
+ghost use Rattle.hys_plain.specs.Built.{IsPlainTree, IsRightOf, is_form, names_of};
+
+use crate::form::form;
+use crate::items::defines;
+use crate::parts::Boxed;
+use hys_ast::{Expr, Item, Shape, Source};
+use hys_frac::Text;
 use hys_lin::Affine;
 use std::alloc::{AllocError, Global};
 
-// The next value of each state, and whether it was defined yet.
-#[derive(Drop)]
-pub struct Next {
-    columns: usize,
-    forms: Vec<Affine>,
-    defined: Vec<bool>,
+// The right side of the item that defines the name.
+fn right_side<'a>(items: &'a [Item], name: &Text) -> &'a Expr
+    requires defined { count_by (λ i. defines name.now i.name) (map item_of items.now) ≡ 1 }
+    requires forms { AllByRecursion (λ i. IsTrue (is_form i.shape)) (map item_of items.now) }
+    ensures { SomeItem (IsRightOf name.now (tree_of result.now)) (map item_of items.now) }
+{
+    for item in items {
+        if defines(item, name) {
+            match &item.shape {
+                Shape::Plain(whole) => return whole,
+                Shape::Choice(_, _, _) => unreachable!(),
+            }
+        }
+    }
+    unreachable!()
 }
 
-impl Next {
-    // No next value yet, for each of so many states, over so many columns.
-    #[tactic(auto, using(crate::proofs::Terms::none_below))]
-    pub fn new(alloc: Global, states: usize, columns: usize) -> Result<Next, AllocError>
-        ensures long { IfOk result (λ v. length v.forms.items ≡ states) }
-        ensures over { IfOk result (λ v. v.columns ≡ columns) }
-        ensures none { IfOk result IsNext }
-    {
-        let mut forms = Vec::new(alloc);
-        let mut defined = Vec::new(alloc);
-        for _ in 0..states {
-            forms.push(Affine {
-                terms: List::of(Vec::new(alloc)),
-                constant: Frac::whole(0),
-            })?;
-            defined.push(false)?;
-        }
-        Ok(Next {
-            columns,
-            forms,
-            defined,
-        })
-    }
+// The next value of a state.
+fn next_value(
+    alloc: Global,
+    source: &Source,
+    states: &[Boxed],
+    inputs: &[Boxed],
+    name: &Text,
+) -> Result<Affine, AllocError>
+    requires plain { IsPlainTree (source_of source.now) }
+    requires states { names_of states.now ≡ texts is_state (names (source_of source.now)) }
+    requires inputs { names_of inputs.now ≡ texts is_input (names (source_of source.now)) }
+    requires state { list_any (bytes_eq name.now) (names_of states.now) ≡ true }
+    ensures next { IfOk result (IsNextOf (source_of source.now) name.now) }
+    ensures over { IfOk result (λ f. AreTermsOver (length (columns (names (source_of source.now)))) f.terms) }
+{
+    let whole = right_side(source.items.items(), name);
+    form(alloc, whole, states, inputs)
+}
 
-    // Defines the next value of a state, and answers whether it wasn't defined before.
-    pub fn define(&mut self, state: usize, form: Affine) -> bool
-        requires known { state < length self.old.forms.items }
-        requires before { IsNext self.old }
-        requires form { AreTermsOver self.old.columns form.terms }
-        ensures long { length self.new.forms.items ≡ length self.old.forms.items }
-        ensures over { self.new.columns ≡ self.old.columns }
-        ensures kept { IsNext self.new }
-    {
-        if self.defined[state] {
-            return false;
-        }
-        self.defined[state] = true;
-        self.forms[state] = form;
-        true
+/// The next value of each state of a plain source.
+pub fn next_values(
+    alloc: Global,
+    source: &Source,
+    states: &[Boxed],
+    inputs: &[Boxed],
+) -> Result<Vec<Affine>, AllocError>
+    requires plain { IsPlainTree (source_of source.now) }
+    requires states { names_of states.now ≡ texts is_state (names (source_of source.now)) }
+    requires inputs { names_of inputs.now ≡ texts is_input (names (source_of source.now)) }
+    ensures next { IfOk result (λ v. AreNext (source_of source.now) (texts is_state (names (source_of source.now))) v.items) }
+    ensures over { IfOk result (λ v. All (λ f. AreTermsOver (length (columns (names (source_of source.now)))) f.terms) v.items) }
+{
+    let mut found = Vec::new(alloc);
+    for state in states {
+        found.push(next_value(alloc, source, states, inputs, &state.name)?)?;
     }
-
-    // The next values, where each is defined.
-    pub fn all(self) -> Option<Vec<Affine>>
-        ensures { IfSome result (λ v. v.items ≡ self.forms.items) }
-    {
-        if !self.defined.iter().all(|d| *d) {
-            return None;
-        }
-        let Next { forms, .. } = self;
-        Some(forms)
-    }
+    Ok(found)
 }

@@ -1,6 +1,7 @@
 ghost use Rattle.std.specs.Prelude.{◌≡◌};
 ghost use Rattle.hys_plain.specs.declared.parts.PlainFault.TheVariants.{Memory};
 
+use hys_ast::Place;
 use hys_frac::{List, Text};
 use hys_lin::{Affine, Interval};
 use std::alloc::{AllocError, AllocFailed};
@@ -22,10 +23,11 @@ pub struct PlainParts {
     pub next: List<Affine>,
 }
 
-/// Why a source wasn't read: it isn't plain, or memory was wanting.
+/// Why a source has no parts: it isn't plain, with the place of the first token that shows it, or
+/// memory was wanting.
 #[derive(Clone, Copy, Debug, PartialEq, Eq)]
 pub enum PlainFault {
-    NotYet,
+    NotYet(Place),
     Memory,
 }
 

@@ -1,226 +1,67 @@
-ghost use Rattle.std.specs.Prelude.{◌≡◌, ◌<◌, ◌≤◌, ◌^◌, ◌-◌, ◌++◌, length, map, All, IfOk, OnOk, IfSome};
-ghost use Rattle.hys_frac.specs.Differ.{Differ};
-ghost use Rattle.hys_lin.specs.Sums.{IsInterval};
-ghost use Rattle.hys_plain.specs.Parts.{IsNext, AreParts, count_of, name_of};
-ghost use Rattle.hys_lin.specs.Over.{AreTermsOver};
+//! The parts of a plain source.
 
-use crate::budget::Budget;
-use crate::cursor::{after, after_all, word};
-use crate::declare::section;
-use crate::names::{Names, differ, place_of};
-use crate::next::Next;
-use crate::parts::{Boxed, PlainFault, PlainParts};
-use crate::right::right_side;
-use hys_frac::{List, Text};
-use hys_lex::{LexFault, Token, TokenKind, keyword, sign, tokens};
-use hys_lin::Affine;
-use std::alloc::Global;
+ghost use Rattle.std.specs.Prelude.{◌≡◌, ◌<◌, ◌-◌, ◌^◌, Err, length, IfOk};
+ghost use Rattle.hys_lex.specs.Cut.{Cut};
+ghost use Rattle.hys_ast.specs.Seen.{source_of};
+ghost use Rattle.hys_ast.specs.declared.place.Place.{Place};
+ghost use Rattle.hys_plain.specs.declared.parts.PlainFault.TheVariants.{NotYet};
+ghost use Rattle.hys_plain.specs.Plain.{IsPlain, unbuilt_place};
+ghost use Rattle.hys_plain.specs.Meant.{PartsOf};
+ghost use Rattle.hys_plain.specs.Built.{IsPlainTree};
 
-const OPEN_BRACE: TokenKind = TokenKind::Sign(sign::OPEN_BRACE);
+use crate::bounds::boxes;
+use crate::judge::is_plain;
+use crate::kinds::refused_at;
+use crate::next::next_values;
+use crate::parts::{PlainFault, PlainParts};
+use hys_ast::Source;
+use hys_frac::List;
+use hys_lex::Token;
+use std::alloc::{AllocError, Global};
 
-const EQUALS: TokenKind = TokenKind::Sign(sign::EQUALS);
-
-const CLOSE_BRACE: TokenKind = TokenKind::Sign(sign::CLOSE_BRACE);
-
-const NAMES: usize = 200;
-
-// The interface: the names of STATE and of INPUT, each section at most once.
-fn interface<'a>(
-    alloc: Global,
-    text: &[u8],
-    tokens: &'a [Token],
-    budget: &mut Budget,
-) -> Result<(Names, &'a [Token]), PlainFault>
-    ensures states { IfOk result (λ p. All (λ b. IsInterval b.bounds) p.0.states.items) }
-    ensures inputs { IfOk result (λ p. All (λ b. IsInterval b.bounds) p.0.inputs.items) }
+fn parts(alloc: Global, source: &Source) -> Result<PlainParts, AllocError>
+    requires { IsPlainTree (source_of source.now) }
+    ensures { IfOk result (PartsOf (source_of source.now)) }
 {
-    let opening = [TokenKind::Keyword(keyword::INTERFACE), OPEN_BRACE];
-    let mut rest = after_all(tokens, &opening).ok_or(PlainFault::NotYet)?;
-    let mut states = Vec::new(alloc);
-    let mut inputs = Vec::new(alloc);
-    let mut states_met = false;
-    let mut inputs_met = false;
-    loop {
-        if let Some(more) = after(rest, TokenKind::Keyword(keyword::STATE)) {
-            if states_met {
-                return Err(PlainFault::NotYet);
-            }
-            states_met = true;
-            (states, rest) = match section(alloc, text, more, budget) {
-                Ok(read) => read,
-                Err(fault) => return Err(fault),
-            };
-        } else if let Some(more) = after(rest, TokenKind::Keyword(keyword::INPUT)) {
-            if inputs_met {
-                return Err(PlainFault::NotYet);
-            }
-            inputs_met = true;
-            (inputs, rest) = match section(alloc, text, more, budget) {
-                Ok(read) => read,
-                Err(fault) => return Err(fault),
-            };
-        } else {
-            break;
-        }
-    }
-    let rest = after(rest, CLOSE_BRACE).ok_or(PlainFault::NotYet)?;
-    Ok((Names { states, inputs }, rest))
-}
-
-// The item `state = right side;`, whose form goes into the state's slot, which must be free.
-fn item<'a>(
-    alloc: Global,
-    text: &[u8],
-    tokens: &'a [Token],
-    names: &Names,
-    next: &mut Next,
-    budget: &mut Budget,
-) -> Result<&'a [Token], PlainFault>
-    requires few { count_of names.now ≤ 200 }
-    requires each { length next.old.forms.items ≡ length names.now.states.items }
-    requires over { next.old.columns ≡ count_of names.now }
-    requires forms { IsNext next.old }
-    ensures shorter { IfOk result (λ rest. length rest.now < length tokens.now) }
-    ensures long { length next.new.forms.items ≡ length next.old.forms.items }
-    ensures over { next.new.columns ≡ next.old.columns }
-    ensures kept { IsNext next.new }
-{
-    let (name, rest) = word(text, tokens, TokenKind::Name).ok_or(PlainFault::NotYet)?;
-    let state = place_of(&names.states, name).ok_or(PlainFault::NotYet)?;
-    let rest = after(rest, EQUALS).ok_or(PlainFault::NotYet)?;
-    let (form, nodes, rest) = match right_side(alloc, text, rest, names) {
-        Ok(read) => read,
-        Err(fault) => return Err(fault),
-    };
-    budget.take_expression(nodes)?;
-    if !next.define(state, form) {
-        return Err(PlainFault::NotYet);
-    }
-    Ok(rest)
-}
-
-// The items of CONTINUOUS in braces, behind its keyword.
-fn items<'a>(
-    alloc: Global,
-    text: &[u8],
-    tokens: &'a [Token],
-    names: &Names,
-    next: &mut Next,
-    budget: &mut Budget,
-) -> Result<&'a [Token], PlainFault>
-    requires few { count_of names.now ≤ 200 }
-    requires each { length next.old.forms.items ≡ length names.now.states.items }
-    requires over { next.old.columns ≡ count_of names.now }
-    requires forms { IsNext next.old }
-    ensures long { length next.new.forms.items ≡ length next.old.forms.items }
-    ensures over { next.new.columns ≡ next.old.columns }
-    ensures kept { IsNext next.new }
-{
-    let mut rest = after(tokens, OPEN_BRACE).ok_or(PlainFault::NotYet)?;
-    loop {
-        if let Some(rest) = after(rest, CLOSE_BRACE) {
-            return Ok(rest);
-        }
-        rest = item(alloc, text, rest, names, next, budget)?;
-    }
-}
-
-// The implementation: a next value for each state.
-fn implementation<'a>(
-    alloc: Global,
-    text: &[u8],
-    tokens: &'a [Token],
-    names: &Names,
-    budget: &mut Budget,
-) -> Result<(Vec<Affine>, &'a [Token]), PlainFault>
-    requires { count_of names.now ≤ 200 }
-    ensures each { IfOk result (λ p. length p.0.items ≡ length names.now.states.items) }
-    ensures forms { IfOk result (λ p. All (λ f. AreTermsOver (count_of names.now) f.terms) p.0.items) }
-{
-    let opening = [TokenKind::Keyword(keyword::IMPLEMENTATION), OPEN_BRACE];
-    let rest = after_all(tokens, &opening).ok_or(PlainFault::NotYet)?;
-    let mut next = Next::new(alloc, names.states.len(), names.count())?;
-    let rest = match after(rest, TokenKind::Keyword(keyword::CONTINUOUS)) {
-        Some(more) => items(alloc, text, more, names, &mut next, budget)?,
-        None => rest,
-    };
-    let rest = after(rest, CLOSE_BRACE).ok_or(PlainFault::NotYet)?;
-    match next.all() {
-        Some(forms) => Ok((forms, rest)),
-        None => Err(PlainFault::NotYet),
-    }
-}
-
-/// What a plain source says.
-///
-/// A plain source has real states and inputs with boxes of whole numbers, and for each state a
-/// next value that is a sum of whole multiples of states and inputs and of at most one number,
-/// each name at most once; numbers have one to six digits. It has no comments. It keeps the
-/// limits on sources: 200 names, 4000 expression nodes and 1000 of one expression.
-///
-/// # Errors
-///
-/// `NotYet` where the source isn't plain.
-pub fn plain(alloc: Global, text: &[u8]) -> Result<PlainParts, PlainFault>
-    requires { length text.now < 2 ^ 32 - 1 }
-    ensures { IfOk result AreParts }
-{
-    // A `/` divides or begins a comment, so it stands in no plain source.
-    if text.contains(&b'/') {
-        return Err(PlainFault::NotYet);
-    }
-    match tokens(alloc, text) {
-        Ok(tokens) => read(alloc, text, &tokens),
-        Err(LexFault::Memory) => Err(PlainFault::Memory),
-        Err(_) => Err(PlainFault::NotYet),
-    }
-}
-
-// What the tokens of a plain source say.
-fn read(alloc: Global, text: &[u8], tokens: &[Token]) -> Result<PlainParts, PlainFault>
-    ensures { IfOk result AreParts }
-{
-    let mut budget = Budget::new();
-    let rest = after(tokens, TokenKind::Keyword(keyword::SYSTEM)).ok_or(PlainFault::NotYet)?;
-    let (system, rest) = word(text, rest, TokenKind::Name).ok_or(PlainFault::NotYet)?;
-    let system = Text::of(String::from_str(alloc, system)?);
-    let rest = after(rest, OPEN_BRACE).ok_or(PlainFault::NotYet)?;
-    let (names, rest) = match interface(alloc, text, rest, &mut budget) {
-        Ok(read) => read,
-        Err(fault) => return Err(fault),
-    };
-    if names.states.len() > NAMES || names.inputs.len() > NAMES - names.states.len() {
-        return Err(PlainFault::NotYet);
-    }
-    if !differ(&names.states, &names.inputs) {
-        return Err(PlainFault::NotYet);
-    }
-    let (next, rest) = match implementation(alloc, text, rest, &names, &mut budget) {
-        Ok(read) => read,
-        Err(fault) => return Err(fault),
-    };
-    let rest = after(rest, CLOSE_BRACE).ok_or(PlainFault::NotYet)?;
-    if !rest.is_empty() {
-        return Err(PlainFault::NotYet);
-    }
-    Ok(parts(system, names, next))
-}
-
-// The parts of a source that was read whole.
-fn parts(system: Text, names: Names, next: Vec<Affine>) -> PlainParts
-    requires states { All (λ b. IsInterval b.bounds) names.states.items }
-    requires inputs { All (λ b. IsInterval b.bounds) names.inputs.items }
-    requires few { count_of names ≤ 200 }
-    requires differ { Differ (map name_of (names.states.items ++ names.inputs.items)) }
-    requires each { length next.items ≡ length names.states.items }
-    requires forms { All (λ f. AreTermsOver (count_of names) f.terms) next.items }
-    ensures { AreParts result }
-{
-    let Names { states, inputs } = names;
-    PlainParts {
+    let system = source.system.clone()?;
+    let states = boxes(alloc, source.decls.items(), true)?;
+    let inputs = boxes(alloc, source.decls.items(), false)?;
+    let next = next_values(alloc, source, &states, &inputs)?;
+    Ok(PlainParts {
         system,
         states: List::of(states),
         inputs: List::of(inputs),
         next: List::of(next),
+    })
+}
+
+/// The parts of a plain source, of which `tokens` is the cut of `text` and `source` the tree.
+///
+/// A plain source has real states and inputs with boxes whose ends are literals, and for each
+/// state one next value that is a sum of literals, names, and literals times names: each name at
+/// most once, and at most one literal alone. A literal has one to six digits. At most 200 names
+/// are declared, and all differ.
+///
+/// # Errors
+///
+/// `NotYet` exactly where the source isn't plain, with the place of the first keyword that no
+/// plain source has, or the start of the text where there is none. `Memory` where memory is
+/// wanting.
+#[tactic(auto, using(crate::proofs::Judged::tree_is))]
+pub fn plain(
+    alloc: Global,
+    tokens: &[Token],
+    text: &[u8],
+    source: &Source,
+) -> Result<PlainParts, PlainFault>
+    requires cut { Cut text.now tokens.now }
+    requires small { length text.now < 2 ^ 32 - 1 }
+    ensures ok { IfOk result (λ p. IsPlain tokens.now (source_of source.now)) }
+    ensures parts { IfOk result (λ p. PartsOf (source_of source.now) p) }
+    ensures refused { (place : Place) → result ≡ Err (NotYet place) → (place ≡ unbuilt_place text.now tokens.now) × (IsPlain tokens.now (source_of source.now) → ⊥) }
+{
+    if !is_plain(tokens, source) {
+        return Err(PlainFault::NotYet(refused_at(text, tokens)));
     }
+    Ok(parts(alloc, source)?)
 }

@@ -11,10 +11,10 @@ use Rattle.hys_rows.specs.Sources.{guarded, always, guarded_by, tolerance, n_ove
 use Rattle.hys_rows.specs.OneStep.{OneStep}
 use Rattle.hys_rows.proofs.Numbers.{head_same, never, real_not_bool, in_low, in_high, edge, above, below, far_low, far_high, far, not_below, three_low, three_high, within}
 
-at_x : Number → Number → Assignment
+unfoldable pub at_x : Number → Number → Assignment
 at_x a b n = cond (bytes_eq n (codes "x")) a b
 
-legal_by : (e : Tree) (a b : Number) → literal (codes "0") ≤ₙ a → a ≤ₙ literal (codes "10") → GuardCase (at_x a b) (codes "d") (guard_number (at_x a b) e) → ¬ (GapOf tolerance (guard_number (at_x a b) e)) →
+pub legal_by : (e : Tree) (a b : Number) → literal (codes "0") ≤ₙ a → a ≤ₙ literal (codes "10") → GuardCase (at_x a b) (codes "d") (guard_number (at_x a b) e) → ¬ (GapOf tolerance (guard_number (at_x a b) e)) →
     Legal tolerance (guarded_by e) (a ∷ []) [] (at_x a b) (a ∷ []) []
 unfolding at_x
 legal_by e a b l h c g = record {
@@ -33,16 +33,16 @@ legal_by e a b l h c g = record {
   no_gap = (g, (λ t. t, tt));
 }
 
-record Told (e : Tree) (a : Number) (w : Assignment) (x' y : List Number) : Type 0 where
-  state : w (codes "x") ≡ a
-  low : literal (codes "0") ≤ₙ a
-  high : a ≤ₙ literal (codes "10")
-  told : GuardCase w (codes "d") (guard_number w e)
-  gap : ¬ (GapOf tolerance (guard_number w e))
-  next : x' ≡ a ∷ []
-  outputs : y ≡ []
+pub record Told (e : Tree) (a : Number) (w : Assignment) (x' y : List Number) : Type 0 where
+  pub state : w (codes "x") ≡ a
+  pub low : literal (codes "0") ≤ₙ a
+  pub high : a ≤ₙ literal (codes "10")
+  pub told : GuardCase w (codes "d") (guard_number w e)
+  pub gap : ¬ (GapOf tolerance (guard_number w e))
+  pub next : x' ≡ a ∷ []
+  pub outputs : y ≡ []
 
-told_by : (e : Tree) (a : Number) (w : Assignment) (x' y : List Number) → Legal tolerance (guarded_by e) (a ∷ []) [] w x' y → Told e a w x' y
+pub told_by : (e : Tree) (a : Number) (w : Assignment) (x' y : List Number) → Legal tolerance (guarded_by e) (a ∷ []) [] w x' y → Told e a w x' y
 told_by e a w x' y h =
     let x : w (codes "x") ≡ a = head_same h.step.states in
     let b = h.boxes.0 refl in

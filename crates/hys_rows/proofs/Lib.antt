@@ -7,3 +7,10 @@ pub mod Heated
 pub mod Cast
 pub mod Once
 pub mod Limited
+pub mod Weighed
+pub mod Switched
+pub mod Parted
+pub mod Keeping
+pub mod Folded
+pub mod Unique
+pub mod Parts

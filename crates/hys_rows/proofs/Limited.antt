@@ -1,5 +1,5 @@
 -- Which trees are within the limits.
-use Rattle.std.proofs.Common.{◌≡◌, ℕ, zero, suc, ◌≤◌, [], ◌++◌, codes, refl, arith, replicate, length}
+use Rattle.std.proofs.Common.{◌≡◌, ℕ, zero, suc, ◌≤◌, codes, refl, arith, replicate, length}
 use Rattle.hys_ast.specs.Tree.{Decl}
 use Rattle.hys_ast.specs.declared.source.Section.TheVariants as section
 use Rattle.hys_ast.specs.Nodes.{nodes}

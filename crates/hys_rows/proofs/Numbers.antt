@@ -313,3 +313,22 @@ half_below = rw (over-is 1 2 (omega arith), whole-is 1) (simp decides (omega ari
 
 pub half_above : whole 0 <ₙ make (pos 1) 2
 half_above = rw (over-is 1 2 (omega arith), whole-is 0) (simp decides (omega arith))
+
+-- ---- literals that are whole numbers
+pub zero_is : literal (codes "0") ≡ whole 0
+zero_is = rw (literal-0, whole-is 0) (simp decides (omega arith))
+
+pub two_is : literal (codes "2") ≡ whole 2
+two_is = rw (literal-2, whole-is 2) (simp decides (omega arith))
+
+pub three_is : literal (codes "3") ≡ whole 3
+three_is = rw (literal-3, whole-is 3) (simp decides (omega arith))
+
+pub four_is : literal (codes "4") ≡ whole 4
+four_is = rw (literal-4, whole-is 4) (simp decides (omega arith))
+
+pub five_is : literal (codes "5") ≡ whole 5
+five_is = rw (literal-5, whole-is 5) (simp decides (omega arith))
+
+pub ten_is : literal (codes "10") ≡ whole 10
+ten_is = rw (literal-10, whole-is 10) (simp decides (omega arith))

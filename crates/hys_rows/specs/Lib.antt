@@ -2,3 +2,4 @@ pub mod Trees
 pub mod Sources
 pub mod OneStep
 pub mod Long
+pub mod Systems

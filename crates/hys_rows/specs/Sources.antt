@@ -4,7 +4,7 @@ use Rattle.hys_number.specs.Number.{Number, make}
 use Rattle.hys_ast.specs.declared.tree.BinaryOp.TheVariants as binary
 use Rattle.hys_ast.specs.declared.source.Section.TheVariants as section
 use Rattle.hys_ast.specs.Tree.{Tree, Item, Source}
-use Rattle.hys_rows.specs.Trees.{number, name, cast, truth, negated, minus, both, real_in, real, bool, parameter, item, choice, must}
+use Rattle.hys_rows.specs.Trees.{number, name, cast, truth, negated, minus, both, real_in, real, bool, parameter, bool_parameter, item, choice, must, place, number_at, both_at, item_at}
 
 abbrev pub n_over : ℕ → ℕ → Number
 n_over n d = make (pos n) d
@@ -216,3 +216,109 @@ shown = item section.OutputItem (codes "y") (number (codes "1"))
 -- d = TRUE
 abbrev pub settled : Item
 settled = item section.Logic (codes "d") (truth true)
+
+-- ---- numbers of 64 bits
+-- one line, with the upper end at byte 42: STATE { REAL x [0, E]; }, CONTINUOUS { x = x; }
+abbrev pub ends_at : List ℕ → Source
+ends_at text = boxed_by (number_at (place 42 1 43) text)
+
+-- line 4, behind 82 bytes: STATE { REAL x [0, 10]; }, CONTINUOUS { x = 9223372036854775807*x + x; }
+abbrev pub too_steep : Source
+too_steep = record {
+  system = codes "t";
+  decls = real_in section.State (codes "x") (number (codes "0")) (number (codes "10")) ∷ [];
+  items =
+      item_at (place 82 4 1) section.Continuous (codes "x")
+      (both_at (place 108 4 27) binary.Add (both_at (place 105 4 24) binary.Mul (number_at (place 86 4 5) (codes "9223372036854775807")) (name (codes "x"))) (name (codes "x"))) ∷ [];
+}
+
+-- line 3, behind 106 bytes: STATE { REAL x [0, 9223372036854775807]; }, AUX { BOOL d; }, AD { d = x <= -1; },
+-- CONTINUOUS { x = x; }
+abbrev pub too_wide : Source
+too_wide = record {
+  system = codes "w";
+  decls = real_in section.State (codes "x") (number (codes "0")) (number (codes "9223372036854775807")) ∷ bool section.Aux (codes "d") ∷ [];
+  items = item_at (place 106 3 1) section.Ad (codes "d") (both binary.Most (name (codes "x")) (minus (number (codes "1")))) ∷ item section.Continuous (codes "x") (name (codes "x")) ∷ [];
+}
+
+-- lines 3 and 4, behind 101 bytes: STATE { REAL x [0, 10]; }, AUX { REAL far, near; }, LINEAR { far = 2*near; near = x + 1; },
+-- CONTINUOUS { x = x; }
+abbrev pub in_turn : Source
+in_turn = record {
+  system = codes "o";
+  decls = real_in section.State (codes "x") (number (codes "0")) (number (codes "10")) ∷ real section.Aux (codes "far") ∷ real section.Aux (codes "near") ∷ [];
+  items =
+      item_at (place 101 3 1) section.Linear (codes "far") (both binary.Mul (number (codes "2")) (name (codes "near")))
+      ∷ item_at (place 115 4 1) section.Linear (codes "near") (both binary.Add (name (codes "x")) (number (codes "1")))
+      ∷ item section.Continuous (codes "x") (name (codes "x")) ∷ [];
+}
+
+-- STATE { REAL x [0, 10]; }, INPUT { BOOL a; }, AUX { REAL z; }, DA { z = { IF a THEN 2*x }; },
+-- CONTINUOUS { x = x; }
+abbrev pub switched : Source
+switched = record {
+  system = codes "c";
+  decls = real_in section.State (codes "x") (number (codes "0")) (number (codes "10")) ∷ bool section.Input (codes "a") ∷ real section.Aux (codes "z") ∷ [];
+  items = choice (codes "z") (name (codes "a")) (both binary.Mul (number (codes "2")) (name (codes "x"))) None ∷ item section.Continuous (codes "x") (name (codes "x")) ∷ [];
+}
+
+-- the same with z = { IF ~a THEN x + (REAL a) ELSE 1 }
+abbrev pub mixed : Source
+mixed = record {
+  system = codes "c";
+  decls = real_in section.State (codes "x") (number (codes "0")) (number (codes "10")) ∷ bool section.Input (codes "a") ∷ real section.Aux (codes "z") ∷ [];
+  items = choice (codes "z") (negated (name (codes "a"))) (both binary.Add (name (codes "x")) (cast (codes "a"))) (Some (number (codes "1"))) ∷ item section.Continuous (codes "x") (name (codes "x")) ∷ [];
+}
+
+-- the same with z = { IF a THEN x - 3 ELSE 2*x }
+abbrev pub spread : Source
+spread = record {
+  system = codes "c";
+  decls = real_in section.State (codes "x") (number (codes "0")) (number (codes "10")) ∷ bool section.Input (codes "a") ∷ real section.Aux (codes "z") ∷ [];
+  items =
+      choice (codes "z") (name (codes "a")) (both binary.Sub (name (codes "x")) (number (codes "3"))) (Some (both binary.Mul (number (codes "2")) (name (codes "x"))))
+      ∷ item section.Continuous (codes "x") (name (codes "x")) ∷ [];
+}
+
+-- STATE { REAL x [0, 10]; }, AUX { REAL z; BOOL d; }, LINEAR { z = 3*(REAL d); }, AD { d = x >= 5; },
+-- CONTINUOUS { x = x; }
+abbrev pub graded : Source
+graded = record {
+  system = codes "r";
+  decls = real_in section.State (codes "x") (number (codes "0")) (number (codes "10")) ∷ real section.Aux (codes "z") ∷ bool section.Aux (codes "d") ∷ [];
+  items =
+      item section.Linear (codes "z") (both binary.Mul (number (codes "3")) (cast (codes "d")))
+      ∷ item section.Ad (codes "d") (both binary.Least (name (codes "x")) (number (codes "5")))
+      ∷ item section.Continuous (codes "x") (name (codes "x")) ∷ [];
+}
+
+-- STATE { REAL x [0, 10]; }, PARAMETER { BOOL p = TRUE; }, AUX { REAL z; }, DA { z = { IF p THEN x }; },
+-- CONTINUOUS { x = x; }
+abbrev pub decided : Source
+decided = record {
+  system = codes "c";
+  decls = real_in section.State (codes "x") (number (codes "0")) (number (codes "10")) ∷ bool_parameter (codes "p") (truth true) ∷ real section.Aux (codes "z") ∷ [];
+  items = choice (codes "z") (name (codes "p")) (name (codes "x")) None ∷ item section.Continuous (codes "x") (name (codes "x")) ∷ [];
+}
+
+-- one line, with two literals that don't fit, in a bound and behind it in a parameter's value:
+-- STATE { REAL x [0, 9223372036854775808]; }, PARAMETER { REAL a = 9223372036854775809; },
+-- CONTINUOUS { x = x; }
+abbrev pub long_twice : Source
+long_twice = record {
+  system = codes "p";
+  decls = real_in section.State (codes "x") (number (codes "0")) (number_at (place 42 1 43) (codes "9223372036854775808")) ∷ parameter (codes "a") (number_at (place 87 1 88) (codes "9223372036854775809")) ∷ [];
+  items = item section.Continuous (codes "x") (name (codes "x")) ∷ [];
+}
+
+-- d = x >= 0.5
+abbrev pub halved : Source
+halved = guarded_by (both binary.Least (name (codes "x")) (number (codes "0.5")))
+
+-- the same over a box of 0 to 9223372036854775807
+abbrev pub halved_far : Source
+halved_far = record {
+  system = codes "g";
+  decls = real_in section.State (codes "x") (number (codes "0")) (number (codes "9223372036854775807")) ∷ bool section.Aux (codes "d") ∷ [];
+  items = item section.Ad (codes "d") (both binary.Least (name (codes "x")) (number (codes "0.5"))) ∷ item section.Continuous (codes "x") (name (codes "x")) ∷ [];
+}

@@ -43,6 +43,10 @@ bool s n = record { section = s; kind = kind.Bool; name = n; place = somewhere; 
 abbrev pub parameter : List ℕ → Tree → Decl
 parameter n e = record { section = section.Parameter; kind = kind.Real; name = n; place = somewhere; low = None; high = None; value = Some e }
 
+-- PARAMETER BOOL n = e
+abbrev pub bool_parameter : List ℕ → Tree → Decl
+bool_parameter n e = record { section = section.Parameter; kind = kind.Bool; name = n; place = somewhere; low = None; high = None; value = Some e }
+
 -- n = e
 abbrev pub item : Section → List ℕ → Tree → Item
 item s n e = record { section = s; name = Some n; place = somewhere; shape = tree.Plain e }
@@ -59,3 +63,16 @@ minus a = tree.Unary unary.Neg a somewhere
 
 abbrev pub truth : Bool → Tree
 truth b = tree.Truth b somewhere
+
+-- ---- with a place
+abbrev pub place : ℕ → ℕ → ℕ → Place
+place byte line col = record { byte = byte; line = line; col = col }
+
+abbrev pub number_at : Place → List ℕ → Tree
+number_at p text = tree.Number text p
+
+abbrev pub both_at : Place → BinaryOp → Tree → Tree → Tree
+both_at p op a b = tree.Binary op a b p
+
+abbrev pub item_at : Place → Section → List ℕ → Tree → Item
+item_at p s n e = record { section = s; name = Some n; place = p; shape = tree.Plain e }

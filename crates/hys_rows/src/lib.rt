@@ -4,6 +4,8 @@
 
 pub mod casts;
 pub mod choices;
+pub mod fitting;
 pub mod guards;
 pub mod rules;
 pub mod sums;
+pub mod systems;

@@ -1,0 +1,13 @@
+pub mod Causes
+pub mod Plain
+pub mod Few
+pub mod Stages
+pub mod Texts
+pub mod Declared
+pub mod Lawful
+pub mod Items
+pub mod Boxes
+pub mod Exactly
+pub mod Accepting
+pub mod Compiled
+pub mod Answered

@@ -1,0 +1,113 @@
+-- The causes of a text by the stage at which it is refused: at most one stage stands.
+use Rattle.std.proofs.Common.{◌≡◌, ℕ, ◌<◌, ◌≤◌, ◌⊎◌, List, length, refl, sym, subst, ◌∙◌, inl, inr, arith}
+use Rattle.hys_lex.specs.Cut.{Cut, IsFirstFault}
+use Rattle.hys_lex.specs.declared.token.Token.{Token}
+use Rattle.hys_lex.specs.declared.cut.LexFault.{LexFault}
+use Rattle.hys_lex.specs.declared.cut.LexFault.TheVariants as lexing
+use Rattle.hys_ast.specs.Tree.{Source}
+use Rattle.hys_ast.specs.Places.{place_at}
+use Rattle.hys_ast.specs.Grammar.{IsTreeOf}
+use Rattle.hys_ast.specs.Nodes.{expressions, total, largest}
+use Rattle.hys_parse.specs.Depth.{IsFirstDeep, IsShallow}
+use Rattle.hys_parse.specs.Cause.{IsUngrammatical}
+use Rattle.hys_plain.specs.Plain.{IsPlain, unbuilt_place}
+use Rattle.hys_compile.specs.declared.fault.SourceFault.{SourceFault}
+use Rattle.hys_compile.specs.declared.fault.LimitKind.TheVariants as limit
+use Rattle.hys_compile.specs.Text.{most_bytes, most_tokens, most_nodes, most_nodes_of_one, byte_of, fault_at, over_limit, no_memory, IsCause, too_long, byte, comment, long, many, deep, syntax, nodes, expression, unbuilt}
+use Rattle.hys_compile.proofs.Plain.{AreOnly}
+
+lexical : List ℕ → LexFault → SourceFault
+lexical text (lexing.Byte at) = fault_at 1 (place_at text at)
+lexical text (lexing.Comment at) = fault_at 2 (place_at text at)
+lexical text (lexing.Long at) = fault_at 3 (place_at text at)
+lexical text lexing.Memory = no_memory
+
+-- each stage: the text is refused at it, or passes it and is judged by the next
+abbrev Judged : List ℕ → List Token → Source → SourceFault → Type 0
+Judged text ts t f = ¬ (IsPlain ts t) × (f ≡ fault_at 19 (unbuilt_place text ts))
+
+abbrev Sized : List ℕ → List Token → Source → SourceFault → Type 0
+Sized text ts t f = ((most_nodes_of_one < largest (expressions t)) × (f ≡ over_limit limit.Expression)) ⊎ ((largest (expressions t) ≤ most_nodes_of_one) × Judged text ts t f)
+
+abbrev Measured : List ℕ → List Token → Source → SourceFault → Type 0
+Measured text ts t f = ((most_nodes < total (expressions t)) × (f ≡ over_limit limit.Nodes)) ⊎ ((total (expressions t) ≤ most_nodes) × Sized text ts t f)
+
+abbrev Parsed : List ℕ → List Token → SourceFault → Type 0
+Parsed text ts f = ((k : ℕ) × IsUngrammatical text ts k × (f ≡ fault_at 4 (place_at text (byte_of text ts k)))) ⊎ ((t : Source) × IsTreeOf text ts t × Measured text ts t f)
+
+abbrev Nested : List ℕ → List Token → SourceFault → Type 0
+Nested text ts f = ((k : ℕ) × IsFirstDeep ts k × (f ≡ over_limit limit.Nesting)) ⊎ (IsShallow ts × Parsed text ts f)
+
+abbrev Counted : List ℕ → List Token → SourceFault → Type 0
+Counted text ts f = ((most_tokens < length ts) × (f ≡ over_limit limit.Tokens)) ⊎ ((length ts ≤ most_tokens) × Nested text ts f)
+
+abbrev Lexed : List ℕ → SourceFault → Type 0
+Lexed text f = ((e : LexFault) × IsFirstFault text e × (f ≡ lexical text e)) ⊎ ((ts : List Token) × Cut text ts × Counted text ts f)
+
+abbrev Read : List ℕ → SourceFault → Type 0
+Read text f = ((most_bytes < length text) × (f ≡ over_limit limit.Bytes)) ⊎ ((length text ≤ most_bytes) × Lexed text f)
+
+staged : (text : List ℕ) (f : SourceFault) → IsCause text f → Read text f
+unfolding lexical
+staged text f (too_long more) = inl (more, refl)
+staged text f (byte at short h) = inr (short, inl (lexing.Byte at, h, refl))
+staged text f (comment at short h) = inr (short, inl (lexing.Comment at, h, refl))
+staged text f (long at short h) = inr (short, inl (lexing.Long at, h, refl))
+staged text f (many ts h more) = inr (h.bytes, inr (ts, h.cut, inl (more, refl)))
+staged text f (deep ts k h d) = inr (h.lexed.bytes, inr (ts, h.lexed.cut, inr (h.few, inl (k, d, refl))))
+staged text f (syntax ts k h u) = inr (h.lexed.bytes, inr (ts, h.lexed.cut, inr (h.few, inr (u.shallow, inl (k, u, refl)))))
+staged text f (nodes ts t h more) = inr (h.counted.lexed.bytes, inr (ts, h.counted.lexed.cut, inr (h.counted.few, inr (h.shallow, inr (t, h.derived, inl (more, refl))))))
+staged text f (expression ts t h few more) =
+    inr (h.counted.lexed.bytes, inr (ts, h.counted.lexed.cut, inr (h.counted.few, inr (h.shallow, inr (t, h.derived, inr (few, inl (more, refl)))))))
+staged text f (unbuilt ts t h other) =
+    inr (h.parsed.counted.lexed.bytes, inr (ts, h.parsed.counted.lexed.cut, inr (h.parsed.counted.few, inr (h.parsed.shallow, inr (t, h.parsed.derived, inr (h.nodes, inr (h.expression, (other, refl))))))))
+
+-- ---- two faults at each stage
+same : (f g h : SourceFault) → f ≡ h → g ≡ h → f ≡ g
+same f g h a b = a ∙ sym b
+
+sized : (text : List ℕ) (ts : List Token) (t : Source) (f g : SourceFault) → Sized text ts t f → Sized text ts t g → f ≡ g
+sized text ts t f g (inl (m, a)) (inl (n, b)) = same f g (over_limit limit.Expression) a b
+sized text ts t f g (inl (m, a)) (inr (n, b)) = absurd (omega arith)
+sized text ts t f g (inr (m, a)) (inl (n, b)) = absurd (omega arith)
+sized text ts t f g (inr (m, (p, a))) (inr (n, (q, b))) = same f g (fault_at 19 (unbuilt_place text ts)) a b
+
+measured : (text : List ℕ) (ts : List Token) (t : Source) (f g : SourceFault) → Measured text ts t f → Measured text ts t g → f ≡ g
+measured text ts t f g (inl (m, a)) (inl (n, b)) = same f g (over_limit limit.Nodes) a b
+measured text ts t f g (inl (m, a)) (inr (n, b)) = absurd (omega arith)
+measured text ts t f g (inr (m, a)) (inl (n, b)) = absurd (omega arith)
+measured text ts t f g (inr (m, a)) (inr (n, b)) = sized text ts t f g a b
+
+parsed : (text : List ℕ) (ts : List Token) (f g : SourceFault) → AreOnly text → Parsed text ts f → Parsed text ts g → f ≡ g
+parsed text ts f g only (inl (k, m, a)) (inl (j, n, b)) =
+    same f g (fault_at 4 (place_at text (byte_of text ts k))) a (subst (λ i. g ≡ fault_at 4 (place_at text (byte_of text ts i))) (only.stuck ts j k n m) b)
+parsed text ts f g only (inl (k, m, a)) (inr (t, d, b)) = absurd (m.none t d)
+parsed text ts f g only (inr (t, d, a)) (inl (j, n, b)) = absurd (n.none t d)
+parsed text ts f g only (inr (t, d, a)) (inr (s, e, b)) = measured text ts t f g a (subst (λ x. Measured text ts x g) (only.tree ts s t e d) b)
+
+nested : (text : List ℕ) (ts : List Token) (f g : SourceFault) → AreOnly text → Nested text ts f → Nested text ts g → f ≡ g
+nested text ts f g only (inl (k, m, a)) (inl (j, n, b)) = same f g (over_limit limit.Nesting) a b
+nested text ts f g only (inl (k, m, a)) (inr (n, b)) = absurd (omega (arith, m.deep, n k m.within))
+nested text ts f g only (inr (m, a)) (inl (j, n, b)) = absurd (omega (arith, n.deep, m j n.within))
+nested text ts f g only (inr (m, a)) (inr (n, b)) = parsed text ts f g only a b
+
+counted : (text : List ℕ) (ts : List Token) (f g : SourceFault) → AreOnly text → Counted text ts f → Counted text ts g → f ≡ g
+counted text ts f g only (inl (m, a)) (inl (n, b)) = same f g (over_limit limit.Tokens) a b
+counted text ts f g only (inl (m, a)) (inr (n, b)) = absurd (omega arith)
+counted text ts f g only (inr (m, a)) (inl (n, b)) = absurd (omega arith)
+counted text ts f g only (inr (m, a)) (inr (n, b)) = nested text ts f g only a b
+
+lexed : (text : List ℕ) (f g : SourceFault) → AreOnly text → Lexed text f → Lexed text g → f ≡ g
+lexed text f g only (inl (e, m, a)) (inl (d, n, b)) = same f g (lexical text e) a (subst (λ x. g ≡ lexical text x) (only.fault d e n m) b)
+lexed text f g only (inl (e, m, a)) (inr (ts, n, b)) = absurd (only.apart e ts m n)
+lexed text f g only (inr (ts, m, a)) (inl (d, n, b)) = absurd (only.apart d ts n m)
+lexed text f g only (inr (ts, m, a)) (inr (us, n, b)) = counted text ts f g only a (subst (λ x. Counted text x g) (only.cut us ts n m) b)
+
+read : (text : List ℕ) (f g : SourceFault) → AreOnly text → Read text f → Read text g → f ≡ g
+read text f g only (inl (m, a)) (inl (n, b)) = same f g (over_limit limit.Bytes) a b
+read text f g only (inl (m, a)) (inr (n, b)) = absurd (omega arith)
+read text f g only (inr (m, a)) (inl (n, b)) = absurd (omega arith)
+read text f g only (inr (m, a)) (inr (n, b)) = lexed text f g only a b
+
+pub same_cause : (text : List ℕ) (f g : SourceFault) → AreOnly text → IsCause text f → IsCause text g → f ≡ g
+same_cause text f g only a b = read text f g only (staged text f a) (staged text g b)

@@ -1,0 +1,116 @@
+-- The texts that are compiled, and why others are refused.
+use Rattle.std.specs.Prelude.{◌≡◌, ℕ, ◌<◌, ◌≤◌, ◌⊎◌, List, length, map, slice_index_or}
+use Rattle.hys_number.specs.Number.{Number}
+use Rattle.hys_lex.specs.Cut.{Cut, IsFirstFault}
+use Rattle.hys_lex.specs.declared.token.Token.{Token}
+use Rattle.hys_lex.specs.declared.cut.LexFault.TheVariants as lexing
+use Rattle.hys_ast.specs.declared.place.Place.{Place}
+use Rattle.hys_ast.specs.Tree.{Source}
+use Rattle.hys_ast.specs.Places.{place_at}
+use Rattle.hys_ast.specs.Nodes.{expressions, total, largest}
+use Rattle.hys_ast.specs.Grammar.{IsTreeOf}
+use Rattle.hys_ast.specs.Accepted.{Accepted}
+use Rattle.hys_parse.specs.Depth.{IsShallow, IsFirstDeep}
+use Rattle.hys_parse.specs.Cause.{IsUngrammatical}
+use Rattle.hys_plain.specs.Plain.{IsPlain, unbuilt_place}
+use Rattle.hys_sys.specs.System.{IsSystem}
+use Rattle.hys_sys.specs.declared.system.System.{System}
+use Rattle.hys_compile.specs.Automaton.{IsExactFor}
+use Rattle.hys_compile.specs.declared.fault.SourceFault.{SourceFault}
+use Rattle.hys_compile.specs.declared.fault.Detail.TheVariants as detail
+use Rattle.hys_compile.specs.declared.fault.LimitKind.{LimitKind}
+use Rattle.hys_compile.specs.declared.fault.LimitKind.TheVariants as limit
+
+-- ---- the limits
+abbrev pub most_bytes : ℕ
+most_bytes = 1048576
+
+abbrev pub most_tokens : ℕ
+most_tokens = 16384
+
+abbrev pub most_nodes : ℕ
+most_nodes = 4000
+
+abbrev pub most_nodes_of_one : ℕ
+most_nodes_of_one = 1000
+
+-- ---- texts
+-- the text is within the limit, and these are its tokens
+pub record IsLexed (text : List ℕ) (tokens : List Token) : Type 0 where
+  pub bytes : length text ≤ most_bytes
+  pub cut : Cut text tokens
+
+-- and there are at most as many of them as the limit says
+pub record IsCounted (text : List ℕ) (tokens : List Token) : Type 0 where
+  pub lexed : IsLexed text tokens
+  pub few : length tokens ≤ most_tokens
+
+-- and none is too deep, and this is their tree
+pub record IsParsed (text : List ℕ) (tokens : List Token) (tree : Source) : Type 0 where
+  pub counted : IsCounted text tokens
+  pub shallow : IsShallow tokens
+  pub derived : IsTreeOf text tokens tree
+
+-- and its expressions have at most as many nodes as the limits say
+pub record IsMeasured (text : List ℕ) (tokens : List Token) (tree : Source) : Type 0 where
+  pub parsed : IsParsed text tokens tree
+  pub nodes : total (expressions tree) ≤ most_nodes
+  pub expression : largest (expressions tree) ≤ most_nodes_of_one
+
+-- the text of an accepted source
+pub record IsAcceptedText (text : List ℕ) : Type 0 where
+  pub tokens : List Token
+  pub tree : Source
+  pub measured : IsMeasured text tokens tree
+  pub accepted : Accepted tree
+
+-- the text of a plain source
+pub record IsPlainText (text : List ℕ) : Type 0 where
+  pub tokens : List Token
+  pub tree : Source
+  pub measured : IsMeasured text tokens tree
+  pub plain : IsPlain tokens tree
+
+-- ---- faults
+abbrev pub fault_at : ℕ → Place → SourceFault
+fault_at n place = record { number = n; detail = detail.At place }
+
+abbrev pub over_limit : LimitKind → SourceFault
+over_limit kind = record { number = 18; detail = detail.Limit kind }
+
+abbrev pub no_memory : SourceFault
+no_memory = record { number = 0; detail = detail.Memory }
+
+-- where token k begins, and the end of the text where there is no such token
+abbrev pub byte_of : List ℕ → List Token → ℕ → ℕ
+byte_of text tokens k = slice_index_or (map (λ t. t.from) tokens) k (length text)
+
+-- Why a text is refused. Each cause but the first stands only in a text within the limit on bytes, and
+-- each that speaks of tokens or a tree only where no cause above it stands.
+pub data IsCause (text : List ℕ) : SourceFault → Type 0 where
+  too_long : most_bytes < length text → IsCause text (over_limit limit.Bytes)
+  byte : (at : ℕ) → length text ≤ most_bytes → IsFirstFault text (lexing.Byte at) → IsCause text (fault_at 1 (place_at text at))
+  comment : (at : ℕ) → length text ≤ most_bytes → IsFirstFault text (lexing.Comment at) → IsCause text (fault_at 2 (place_at text at))
+  long : (at : ℕ) → length text ≤ most_bytes → IsFirstFault text (lexing.Long at) → IsCause text (fault_at 3 (place_at text at))
+  many : (tokens : List Token) → IsLexed text tokens → most_tokens < length tokens → IsCause text (over_limit limit.Tokens)
+  deep : (tokens : List Token) (k : ℕ) → IsCounted text tokens → IsFirstDeep tokens k → IsCause text (over_limit limit.Nesting)
+  syntax : (tokens : List Token) (k : ℕ) → IsCounted text tokens → IsUngrammatical text tokens k → IsCause text (fault_at 4 (place_at text (byte_of text tokens k)))
+  nodes : (tokens : List Token) (tree : Source) → IsParsed text tokens tree → most_nodes < total (expressions tree) → IsCause text (over_limit limit.Nodes)
+  expression : (tokens : List Token) (tree : Source) → IsParsed text tokens tree → total (expressions tree) ≤ most_nodes →
+      most_nodes_of_one < largest (expressions tree) → IsCause text (over_limit limit.Expression)
+  unbuilt : (tokens : List Token) (tree : Source) → IsMeasured text tokens tree → ¬ (IsPlain tokens tree) → IsCause text (fault_at 19 (unbuilt_place text tokens))
+
+-- what an error may be: a cause of the text, or want of memory
+abbrev pub IsRefusal : List ℕ → SourceFault → Type 0
+IsRefusal text f = (f ≡ no_memory) ⊎ IsCause text f
+
+-- ---- systems
+-- The system is one of a plain source with this text: lawful, and exact for the source at every tolerance.
+pub record IsCompiled (text : List ℕ) (system : System) : Type 0 where
+  pub tokens : List Token
+  pub tree : Source
+  pub measured : IsMeasured text tokens tree
+  pub plain : IsPlain tokens tree
+  pub accepted : Accepted tree
+  pub lawful : IsSystem system
+  pub exact : (tolerance : Number) → IsExactFor tolerance tree system

@@ -1,0 +1,70 @@
+ghost use Rattle.std.specs.Prelude.{◌≡◌, ◌⊎◌, IfOk, IfErr};
+ghost use Rattle.std.specs.Result.{IsErrAnd};
+ghost use Rattle.hys_ast.specs.Seen.{source_of};
+ghost use Rattle.hys_compile.specs.Text.{IsCompiled, IsCause, IsRefusal, IsMeasured, IsPlainText, no_memory};
+ghost use Rattle.hys_compile.specs.declared.fault.SourceFault.{SourceFault as Fault};
+
+use crate::build::system;
+use crate::fault::SourceFault;
+use crate::front::{counted, measured};
+use crate::laws;
+use hys_ast::Source;
+use hys_lex::Token;
+use hys_plain::{PlainFault, plain};
+use hys_sys::System;
+use std::alloc::{AllocError, Global};
+
+// The system of a tree, where it is that of a plain source.
+#[tactic(auto, using(crate::proofs::Causes::by_memory, crate::proofs::Causes::by_section))]
+fn built(
+    alloc: Global,
+    text: &[u8],
+    tokens: &[Token],
+    source: &Source,
+) -> Result<System, SourceFault>
+    requires { IsMeasured text.now tokens.now (source_of source.now) }
+    ensures done { IfOk result (IsCompiled text.now) }
+    ensures refused { IfErr result (IsRefusal text.now) }
+{
+    match plain(alloc, tokens, text, source) {
+        Ok(parts) => match system(alloc, parts) {
+            Ok(system) => Ok(system),
+            Err(AllocError) => Err(SourceFault::memory()),
+        },
+        Err(PlainFault::NotYet(place)) => Err(SourceFault::placed(SourceFault::NOT_YET, place)),
+        Err(PlainFault::Memory) => Err(SourceFault::memory()),
+    }
+}
+
+fn read_and_built(alloc: Global, text: &[u8]) -> Result<System, SourceFault>
+    ensures done { IfOk result (IsCompiled text.now) }
+    ensures refused { IfErr result (IsRefusal text.now) }
+{
+    let tokens = counted(alloc, text)?;
+    let source = measured(alloc, text, tokens.as_slice())?;
+    built(alloc, text, tokens.as_slice(), &source)
+}
+
+/// The system of a plain source, from its text.
+///
+/// A source is plain where its states and inputs are real with boxes of literals, and each state
+/// has one next value, a sum of names and literals, and of literals times names. The system is
+/// exact for the source: from every state and input in their boxes its rows have a solution exactly
+/// where the automaton has a legal step, each is then the only one, and they agree.
+///
+/// # Errors
+///
+/// The first fault of the source, in this order: a text over the limit on bytes; a byte, a comment
+/// or a word that can't be cut into tokens; too many tokens; a token too deep in parentheses and
+/// signs; a token with which no source goes on; too many expression nodes, in all or in one
+/// expression; a source that isn't plain, at the first keyword that plain sources don't have, or at
+/// the front where it has none.
+pub fn compile(alloc: Global, text: &[u8]) -> Result<System, SourceFault>
+    ensures done { IfOk result (IsCompiled text.now) }
+    ensures refused { IfErr result (IsRefusal text.now) }
+    ensures exact { (fault : Fault) → IsCause text.now fault → IsErrAnd result (λ g. (g ≡ no_memory) ⊎ (g ≡ fault)) }
+    ensures accepts { IsPlainText text.now → IfErr result (λ f. f ≡ no_memory) }
+{
+    laws::one_cause();
+    read_and_built(alloc, text)
+}

@@ -1,0 +1,38 @@
+//! What holds of texts, of plain sources and of the systems of their parts, as calls that do nothing.
+
+ghost use Rattle.std.specs.Prelude.{◌≡◌, ◌≤◌, ℕ, List};
+ghost use Rattle.std.specs.List.{AllByRecursion};
+ghost use Rattle.hys_number.specs.Number.{Number};
+ghost use Rattle.hys_lex.specs.declared.token.Token.{Token};
+ghost use Rattle.hys_ast.specs.Tree.{Source};
+ghost use Rattle.hys_ast.specs.Nodes.{nodes, total, expressions};
+ghost use Rattle.hys_ast.specs.Accepted.{Accepted};
+ghost use Rattle.hys_plain.specs.Plain.{IsPlain};
+ghost use Rattle.hys_plain.specs.Meant.{PartsOf};
+ghost use Rattle.hys_plain.specs.declared.parts.PlainParts.{PlainParts};
+ghost use Rattle.hys_sys.specs.System.{IsSystem};
+ghost use Rattle.hys_compile.specs.Automaton.{IsExactFor};
+ghost use Rattle.hys_compile.specs.System.{system_of};
+ghost use Rattle.hys_compile.specs.Text.{IsCause, IsPlainText};
+ghost use Rattle.hys_compile.specs.declared.fault.SourceFault.{SourceFault as Fault};
+
+use hys_lex::laws as cuts;
+use hys_parse::laws as trees;
+
+/// The system of the parts of a plain source keeps what every system keeps and is exact for the
+/// source at every tolerance. A plain source within the limits on nodes is an accepted one.
+pub fn exact_for_plain_source()
+    ensures system { (tokens : List Token) (s : Source) (p : PlainParts) → IsPlain tokens s → PartsOf s p → IsSystem (system_of p) }
+    ensures exact { (tokens : List Token) (s : Source) (p : PlainParts) → IsPlain tokens s → PartsOf s p → (tolerance : Number) → IsExactFor tolerance s (system_of p) }
+    ensures accepted { (tokens : List Token) (s : Source) → IsPlain tokens s → total (expressions s) ≤ 4000 → AllByRecursion (λ e. nodes e ≤ 1000) (expressions s) → Accepted s }
+{}
+
+/// A text has at most one cause to be refused, and a plain one has none.
+pub fn one_cause()
+    ensures one { (text : List ℕ) (f g : Fault) → IsCause text f → IsCause text g → f ≡ g }
+    ensures none { (text : List ℕ) (f : Fault) → IsPlainText text → IsCause text f → ⊥ }
+{
+    cuts::one_cut();
+    trees::one_tree();
+    trees::one_fault();
+}

@@ -1,0 +1,14 @@
+//! From the bytes of a source to the system of its automaton.
+#![tactic(auto)]
+
+mod build;
+mod compiler;
+mod fault;
+mod front;
+pub mod laws;
+#[cfg(test)]
+mod tests;
+
+pub use compiler::compile;
+pub use fault::{Detail, LimitKind, SourceFault};
+pub use front::MOST_BYTES;

@@ -1,0 +1,238 @@
+use crate::{Detail, LimitKind, SourceFault, compile};
+use hys_ast::Place;
+use std::alloc::{AllocError, Global};
+use std::process::Abort;
+use std::test::Fail;
+
+const INTEGRATOR: &str =
+    "SYSTEM s { INTERFACE { STATE { REAL x [0, 10]; } INPUT { REAL u [-1, 1]; } } IMPLEMENTATION { CONTINUOUS { x = x + u; } } }";
+
+// The answer of the compiler, the system left out.
+#[derive(Clone, Copy, Debug, PartialEq, Eq)]
+enum Answer {
+    System,
+    Placed(u8, u32, u32),
+    Over(LimitKind),
+    Memory,
+}
+
+fn judged(alloc: Global, text: &[u8]) -> Answer {
+    match compile(alloc, text) {
+        Ok(_) => Answer::System,
+        Err(SourceFault { number, detail }) => match detail {
+            Detail::At(Place { line, col, .. }) => Answer::Placed(number, line, col),
+            Detail::Limit(kind) => Answer::Over(kind),
+            Detail::Memory => Answer::Memory,
+        },
+    }
+}
+
+fn expect(rt: &impl Abort, alloc: Global, rows: &[(&str, Answer)]) {
+    for (text, wanted) in rows {
+        assert_eq!(rt; judged(alloc, text.as_bytes()), *wanted, "{text}");
+    }
+}
+
+#[test]
+fn lexical_faults(rt: HostRuntime) -> Result<(), Fail> {
+    expect(
+        &rt,
+        rt.alloc(),
+        &[
+            ("@", Answer::Placed(1, 1, 1)),
+            ("SYSTEM s {\n @", Answer::Placed(1, 2, 2)),
+            ("SYSTEM s { < }", Answer::Placed(1, 1, 12)),
+            ("SYSTEM s { /* ", Answer::Placed(2, 1, 12)),
+            ("SYSTEM s { /*/", Answer::Placed(2, 1, 12)),
+            (
+                "SYSTEM aaaaaaaabbbbbbbbccccccccddddddddeeeeeeeeffffffffgggggggghhhhhhhhi { @",
+                Answer::Placed(3, 1, 8),
+            ),
+            (
+                "SYSTEM 012345670123456701234567012345670 { /* ",
+                Answer::Placed(3, 1, 8),
+            ),
+        ],
+    );
+    Ok(())
+}
+
+#[test]
+fn syntax_faults(rt: HostRuntime) -> Result<(), Fail> {
+    expect(
+        &rt,
+        rt.alloc(),
+        &[
+            ("", Answer::Placed(4, 1, 1)),
+            ("  \n // nothing", Answer::Placed(4, 2, 12)),
+            ("SYSTEM s", Answer::Placed(4, 1, 9)),
+            ("SYSTEM SYSTEM { }", Answer::Placed(4, 1, 8)),
+            (
+                "SYSTEM l { INTERFACE { INPUT { BOOL a, b, c; } }\nIMPLEMENTATION { AUX { BOOL d; } LOGIC {\nd = a -> b -> c;\n} } }",
+                Answer::Placed(4, 3, 12),
+            ),
+            (
+                "SYSTEM s { INTERFACE { STATE { REAL x [0, 1]; } } IMPLEMENTATION { CONTINUOUS {\nx = 1.5e; } } }",
+                Answer::Placed(4, 2, 8),
+            ),
+            (
+                "SYSTEM s { INTERFACE { STATE { } STATE { } } IMPLEMENTATION { } }",
+                Answer::Placed(4, 1, 34),
+            ),
+            (
+                "SYSTEM s { INTERFACE { } IMPLEMENTATION { MUST { x >= 1 } } }",
+                Answer::Placed(4, 1, 57),
+            ),
+            (
+                "SYSTEM s { INTERFACE { } IMPLEMENTATION { } } ;",
+                Answer::Placed(4, 1, 47),
+            ),
+        ],
+    );
+    Ok(())
+}
+
+#[test]
+fn sections_that_are_not_built(rt: HostRuntime) -> Result<(), Fail> {
+    expect(
+        &rt,
+        rt.alloc(),
+        &[
+            (
+                "SYSTEM v { INTERFACE { PARAMETER { } } IMPLEMENTATION { } }",
+                Answer::Placed(19, 1, 24),
+            ),
+            (
+                "SYSTEM v { INTERFACE { OUTPUT { } } IMPLEMENTATION { } }",
+                Answer::Placed(19, 1, 24),
+            ),
+            (
+                "SYSTEM v { INTERFACE { INPUT { BOOL a; } } IMPLEMENTATION { AUX { } } }",
+                Answer::Placed(19, 1, 32),
+            ),
+            (
+                "SYSTEM v { INTERFACE { } IMPLEMENTATION {\nAUX { BOOL d; } LOGIC { d = TRUE; } } }",
+                Answer::Placed(19, 2, 1),
+            ),
+            (
+                "SYSTEM v { INTERFACE { } IMPLEMENTATION { MUST { } AD { } } }",
+                Answer::Placed(19, 1, 43),
+            ),
+            (
+                "SYSTEM v { INTERFACE { STATE { REAL x [0, 1]; } } IMPLEMENTATION { CONTINUOUS { x = (x); } } }",
+                Answer::Placed(19, 1, 1),
+            ),
+        ],
+    );
+    Ok(())
+}
+
+#[test]
+fn plain_sources(rt: HostRuntime) -> Result<(), Fail> {
+    expect(
+        &rt,
+        rt.alloc(),
+        &[
+            (INTEGRATOR, Answer::System),
+            (
+                "SYSTEM e { INTERFACE { } IMPLEMENTATION { } }",
+                Answer::System,
+            ),
+            (
+                "/* \u{ff} */ SYSTEM e{INTERFACE{STATE{}}IMPLEMENTATION{CONTINUOUS{}}} // end",
+                Answer::System,
+            ),
+        ],
+    );
+    let alloc = rt.alloc();
+    let mut comment = b"/*x*/ ".to_vec(alloc)?;
+    comment[2] = 255;
+    comment.extend_from_slice(INTEGRATOR.as_bytes())?;
+    assert_eq!(rt; judged(alloc, &comment), Answer::System);
+    let unended = &INTEGRATOR.as_bytes()[..INTEGRATOR.len() - 1];
+    assert_eq!(rt; judged(alloc, unended), Answer::Placed(4, 1, 123));
+    Ok(())
+}
+
+// The piece so many times.
+fn repeated(alloc: Global, piece: &str, count: u32) -> Result<String, AllocError> {
+    let mut text = String::new(alloc);
+    for _ in 0..count {
+        text.push_str(piece)?;
+    }
+    Ok(text)
+}
+
+#[test]
+fn limit_on_tokens(rt: HostRuntime) -> Result<(), Fail> {
+    let alloc = rt.alloc();
+    for (count, wanted) in [
+        (16_384, Answer::Placed(4, 1, 1)),
+        (16_385, Answer::Over(LimitKind::Tokens)),
+    ] {
+        let text = repeated(alloc, ";", count)?;
+        assert_eq!(rt; judged(alloc, text.as_bytes()), wanted, "{count}");
+    }
+    Ok(())
+}
+
+#[test]
+fn limit_on_nesting(rt: HostRuntime) -> Result<(), Fail> {
+    let alloc = rt.alloc();
+    for (count, wanted) in [
+        (64, Answer::Placed(19, 1, 1)),
+        (65, Answer::Over(LimitKind::Nesting)),
+    ] {
+        let open = repeated(alloc, "(", count)?;
+        let close = repeated(alloc, ")", count)?;
+        let text = format!(in alloc;
+            "SYSTEM n {{ INTERFACE {{ STATE {{ REAL x [0, 1]; }} }} IMPLEMENTATION {{ CONTINUOUS {{ x = {open}x{close}; }} }} }}"
+        )?;
+        assert_eq!(rt; judged(alloc, text.as_bytes()), wanted, "{count}");
+    }
+    Ok(())
+}
+
+#[test]
+fn limit_on_bytes(rt: HostRuntime) -> Result<(), Fail> {
+    let alloc = rt.alloc();
+    for (count, wanted) in [
+        (1_048_576, Answer::Placed(4, 1, 1_048_577)),
+        (1_048_577, Answer::Over(LimitKind::Bytes)),
+    ] {
+        let mut text = Vec::new(alloc);
+        text.resize(count, b' ')?;
+        assert_eq!(rt; judged(alloc, &text), wanted, "{count}");
+    }
+    Ok(())
+}
+
+// Each bound is a node, and a sum of n names has 2 * n - 1 nodes.
+#[test]
+fn limits_on_nodes(rt: HostRuntime) -> Result<(), Fail> {
+    let alloc = rt.alloc();
+    let rows = [
+        (4, "x = -x;", Answer::Placed(19, 1, 1)),
+        (4, "x = x + x;", Answer::Over(LimitKind::Nodes)),
+        (0, "x = -x + x;", Answer::Placed(19, 1, 1)),
+    ];
+    let sum = repeated(alloc, " + x", 499)?;
+    for (count, last, wanted) in rows {
+        let item = format!(in alloc; "x = x{sum}; ")?;
+        let items = repeated(alloc, item.as_str(), count)?;
+        let text = format!(in alloc;
+            "SYSTEM n {{ INTERFACE {{ STATE {{ REAL x [0, 1]; }} }} IMPLEMENTATION {{ CONTINUOUS {{ {items}{last} }} }} }}"
+        )?;
+        assert_eq!(rt; judged(alloc, text.as_bytes()), wanted, "{count} {last}");
+    }
+    for (sign, wanted) in [
+        ("-", Answer::Placed(19, 1, 1)),
+        ("- -", Answer::Over(LimitKind::Expression)),
+    ] {
+        let text = format!(in alloc;
+            "SYSTEM n {{ INTERFACE {{ STATE {{ REAL x [0, 1]; }} }} IMPLEMENTATION {{ CONTINUOUS {{ x = {sign}x{sum}; }} }} }}"
+        )?;
+        assert_eq!(rt; judged(alloc, text.as_bytes()), wanted, "{sign}");
+    }
+    Ok(())
+}
