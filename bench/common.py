@@ -2,6 +2,7 @@
 
 import glob
 import os
+import random
 import shutil
 import subprocess
 import sys
@@ -86,3 +87,26 @@ def best(command, runs=5):
             sys.exit(f"bench: {command[0]} ended with status {process.returncode}")
         times.append(usage.ru_utime + usage.ru_stime)
     return min(times), printed.strip()
+
+
+def gaps(size):
+    """Comments of both kinds and blanks."""
+    draws, found, length = random.Random(1), [], 0
+    while True:
+        words = " ".join("w" * draws.randint(1, 9) for _ in range(draws.randint(1, 12)))
+        blanks = " " * draws.randint(1, 40) + "\n"
+        gap = draws.choice([f"/* {words} */", f"// {words}\n", blanks])
+        if length + len(gap) > size:
+            return "".join(found) + " " * (size - length)
+        found.append(gap)
+        length += len(gap)
+
+
+def seconds(program, path, rounds, each):
+    """The time of a round, less the start of the process and the reading of the file. Each round is to
+    count this much."""
+    idle, _ = best([program, path, "0"])
+    busy, printed = best([program, path, str(rounds)])
+    if printed != str(rounds * each):
+        sys.exit(f"bench: {program} counted {printed} in {rounds} rounds of {each}")
+    return (busy - idle) / rounds
