@@ -11,7 +11,7 @@ use Rattle.hys_plain.specs.Meant.{PartsOf}
 use Rattle.hys_plain.specs.declared.parts.PlainParts.{PlainParts}
 use Rattle.hys_compile.specs.Automaton.{IsExactFor}
 use Rattle.hys_compile.specs.System.{system_of}
-use Rattle.hys_compile.specs.Text.{IsMeasured, IsCompiled}
+use Rattle.hys_compile.specs.Text.{IsMeasured, IsCompiled, IsPlainText, IsAcceptedText}
 use Rattle.hys_compile.proofs.Lawful.{plain_system}
 use Rattle.hys_compile.proofs.Exactly.{plain_exact}
 use Rattle.hys_compile.proofs.Accepting.{plain_accepted}
@@ -31,4 +31,13 @@ plain_compiled text tokens tree p system e m plain parts = record {
   accepted = plain_accepted tokens tree plain m.nodes (each_within 1000 (expressions tree) m.expression);
   lawful = subst IsSystem (sym e) (plain_system tokens tree p plain parts);
   exact = λ tolerance. subst (IsExactFor tolerance tree) (sym e) (plain_exact tokens tree p plain parts tolerance);
+}
+
+-- a plain text is that of an accepted source
+pub plain_text_accepted : (text : List ℕ) → IsPlainText text → IsAcceptedText text
+plain_text_accepted text h = record {
+  tokens = h.tokens;
+  tree = h.tree;
+  measured = h.measured;
+  accepted = plain_accepted h.tokens h.tree h.plain h.measured.nodes (each_within 1000 (expressions h.tree) h.measured.expression);
 }

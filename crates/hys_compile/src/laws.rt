@@ -13,18 +13,20 @@ ghost use Rattle.hys_plain.specs.declared.parts.PlainParts.{PlainParts};
 ghost use Rattle.hys_sys.specs.System.{IsSystem};
 ghost use Rattle.hys_compile.specs.Automaton.{IsExactFor};
 ghost use Rattle.hys_compile.specs.System.{system_of};
-ghost use Rattle.hys_compile.specs.Text.{IsCause, IsPlainText};
+ghost use Rattle.hys_compile.specs.Text.{IsAcceptedText, IsCause, IsPlainText};
 ghost use Rattle.hys_compile.specs.declared.fault.SourceFault.{SourceFault as Fault};
 
 use hys_lex::laws as cuts;
 use hys_parse::laws as trees;
 
 /// The system of the parts of a plain source keeps what every system keeps and is exact for the
-/// source at every tolerance. A plain source within the limits on nodes is an accepted one.
+/// source at every tolerance. A plain source within the limits on nodes is an accepted one, and a
+/// plain text is that of an accepted source.
 pub fn exact_for_plain_source()
     ensures system { (tokens : List Token) (s : Source) (p : PlainParts) → IsPlain tokens s → PartsOf s p → IsSystem (system_of p) }
     ensures exact { (tokens : List Token) (s : Source) (p : PlainParts) → IsPlain tokens s → PartsOf s p → (tolerance : Number) → IsExactFor tolerance s (system_of p) }
     ensures accepted { (tokens : List Token) (s : Source) → IsPlain tokens s → total (expressions s) ≤ 4000 → AllByRecursion (λ e. nodes e ≤ 1000) (expressions s) → Accepted s }
+    ensures accepted_text { (text : List ℕ) → IsPlainText text → IsAcceptedText text }
 {}
 
 /// A text has at most one cause to be refused, and a plain one has none.
