@@ -1,5 +1,5 @@
 -- From what a call says to what its callers say.
-use Rattle.std.proofs.Common.{◌≡◌, ℕ, ◌++◌, List, [], length, take, Option, None, Some, ◌<◌, refl, sym, ap, subst, ◌∙◌, inl, inr}
+use Rattle.std.proofs.Common.{◌≡◌, ℕ, zero, suc, ◌++◌, List, [], length, take, Option, None, Some, ◌<◌, refl, sym, ap, subst, ◌∙◌, inl, inr}
 use Rattle.std.proofs.Math.Seq.{take-length}
 use Rattle.std.proofs.lemmas.List.{append-nil}
 use Rattle.hys_io.specs.Outside.{Named, IfAppended, IfPut, IfTorn, IfHolds}
@@ -8,8 +8,8 @@ use Rattle.hys_sys.specs.declared.system.System.{System}
 use Rattle.hys_compile.specs.declared.fault.SourceFault.{SourceFault}
 use Rattle.hys_app.specs.Lines.{read_line, refused_line}
 use Rattle.hys_compile.specs.declared.fault.LimitKind.TheVariants.{Bytes}
-use Rattle.hys_compile.specs.Text.{most_bytes, over_limit, IsCompiled, too_long}
-use Rattle.hys_app.specs.Ends.{IfPart, SomePart, IsRefused, CausedBy, CompiledFrom, Kept}
+use Rattle.hys_compile.specs.Text.{most_bytes, over_limit, IsCause, IsCompiled, too_long}
+use Rattle.hys_app.specs.Ends.{IfPart, IsLine, SomePart, IsReadLine, IsRefused, CausedBy, CompiledFrom, Kept}
 
 appended_as : (old new : Option (List ℕ)) (xs ys : List ℕ) → xs ≡ ys → IfAppended old new xs → IfAppended old new ys
 appended_as None new xs ys e h = tt
@@ -36,8 +36,14 @@ pub same_torn : (old new : Option Named) (name bytes : List ℕ) → new ≡ old
 same_torn None new name bytes e = tt
 same_torn (Some files) new name bytes e = inl e
 
-pub none_some : (Has : SourceFault → Type 0) (Means : System → Type 0) (old : Option (List ℕ)) → SomePart Has Means old old
-none_some Has Means old = record { line = read_line []; lawful = inr (inl ([], refl)); part = none_part old (read_line []) }
+pub none_some : (Has : SourceFault → Type 0) (Means : System → Type 0) (old : Option (List ℕ)) → SomePart (λ line. line ≡ []) Has Means old old
+none_some Has Means old = record { line = []; lawful = inr (inl refl); part = none_part old [] }
+
+pub none_read : (source : List ℕ) (Has : SourceFault → Type 0) (Means : System → Type 0) (old : Option (List ℕ)) → SomePart (IsReadLine source) Has Means old old
+none_read source Has Means old = record { line = read_line source; lawful = inr (inl refl); part = none_part old (read_line source) }
+
+pub read_part : (source : List ℕ) (Has : SourceFault → Type 0) (Means : System → Type 0) (old new : Option (List ℕ)) → IfPart old new (read_line source) → SomePart (IsReadLine source) Has Means old new
+read_part source Has Means old new p = record { line = read_line source; lawful = inr (inl refl); part = p }
 
 -- ---- from the bytes that were read to the source that the files tell
 -- what holds of the bytes read holds of the file
@@ -59,8 +65,25 @@ kept_from held between held' name target text seen e s h (inr (system, c, torn))
     inr (system, compiled_from held name text system h (subst (λ t. IsCompiled t system) s c), subst (λ b. IfTorn b held' target (matrix_text system)) e torn)
 
 -- a part of a fault's line
-pub fault_part : (held : Option Named) (name : List ℕ) (fault : SourceFault) (old new : Option (List ℕ)) → CausedBy held name fault → IfPart old new (refused_line fault) → SomePart (CausedBy held name) (CompiledFrom held name) old new
+pub fault_part : (held : Option Named) (name : List ℕ) (fault : SourceFault) (old new : Option (List ℕ)) → CausedBy held name fault → IfPart old new (refused_line fault) → SomePart (IsReadLine name) (CausedBy held name) (CompiledFrom held name) old new
 fault_part held name fault old new h p = record { line = refused_line fault; lawful = inl (fault, h, refl); part = p }
+
+no_front : (n : ℕ) (line : List ℕ) → line ≡ [] → take n line ≡ []
+no_front zero line e = refl
+no_front (suc n) line e = rw e refl
+
+-- a part of nothing is a part of any line
+no_part : (old new : Option (List ℕ)) (line other : List ℕ) → line ≡ [] → IfPart old new line → IfPart old new other
+no_part old new line other e (n, h) = (0, appended_as old new (take n line) [] (no_front n line e) h)
+
+pub part_from : (held : Option Named) (name text seen : List ℕ) (old new : Option (List ℕ)) → seen ≡ text → IfHolds held name (λ file. text ≡ file) →
+    SomePart (λ line. line ≡ []) (IsCause seen) (IsCompiled seen) old new → SomePart (IsReadLine name) (CausedBy held name) (CompiledFrom held name) old new
+part_from held name text seen old new s h p = by p.lawful
+  where
+    by : IsLine (λ line. line ≡ []) (IsCause seen) (IsCompiled seen) p.line → SomePart (IsReadLine name) (CausedBy held name) (CompiledFrom held name) old new
+    by (inl (fault, cause, e)) = record { line = p.line; lawful = inl (fault, of_file held name text (λ file. IsCause file fault) h (subst (λ t. IsCause t fault) s cause), e); part = p.part }
+    by (inr (inl e)) = record { line = read_line name; lawful = inr (inl refl); part = no_part old new p.line (read_line name) e p.part }
+    by (inr (inr (system, c, e))) = record { line = p.line; lawful = inr (inr (system, compiled_from held name text system h (subst (λ t. IsCompiled t system) s c), e)); part = p.part }
 
 pub fault_said : (Has : SourceFault → Type 0) (fault : SourceFault) (old new : Option (List ℕ)) → Has fault → IfAppended old new (refused_line fault) → IsRefused Has old new
 fault_said Has fault old new h said = record { fault = fault; cause = h; said = said }

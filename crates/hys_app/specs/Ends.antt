@@ -52,17 +52,21 @@ Kept Means held held' target = (held' ≡ held) ⊎ ((system : System) × Means 
 abbrev pub Whole : (System → Type 0) → Option Named → Option Named → List ℕ → Type 0
 Whole Means held held' target = (held' ≡ held) ⊎ ((system : System) × Means system × IfPut held held' target (matrix_text system))
 
--- the lines that a run with a form may print
-abbrev pub IsLine : (SourceFault → Type 0) → (System → Type 0) → List ℕ → Type 0
-IsLine Has Means line =
-    ((fault : SourceFault) × Has fault × (line ≡ refused_line fault)) ⊎ ((name : List ℕ) × (line ≡ read_line name))
+-- a line that may be printed: that of a fault, that of a system, or another that is allowed
+abbrev pub IsLine : (List ℕ → Type 0) → (SourceFault → Type 0) → (System → Type 0) → List ℕ → Type 0
+IsLine Other Has Means line =
+    ((fault : SourceFault) × Has fault × (line ≡ refused_line fault)) ⊎ Other line
     ⊎ ((system : System) × Means system × (line ≡ compiled_line system))
 
 -- where the text is told: a prefix of one of the lines was appended
-pub record SomePart (Has : SourceFault → Type 0) (Means : System → Type 0) (old new : Option (List ℕ)) : Type 0 where
+pub record SomePart (Other : List ℕ → Type 0) (Has : SourceFault → Type 0) (Means : System → Type 0) (old new : Option (List ℕ)) : Type 0 where
   pub line : List ℕ
-  pub lawful : IsLine Has Means line
+  pub lawful : IsLine Other Has Means line
   pub part : IfPart old new line
+
+-- the source can't be read
+abbrev pub IsReadLine : List ℕ → List ℕ → Type 0
+IsReadLine source line = line ≡ read_line source
 
 -- the two texts of a system: its matrix text, and the line that counts its columns and rows
 pub record AreTexts (Means : System → Type 0) (text line : List ℕ) : Type 0 where

@@ -1,4 +1,4 @@
-ghost use Rattle.std.specs.Prelude.{◌≡◌, ◌≢◌, ◌≤◌, ◌⊎◌, IfOk, IfErr, length, string_bytes};
+ghost use Rattle.std.specs.Prelude.{◌≡◌, ◌≢◌, ◌≤◌, ◌⊎◌, [], IfOk, IfErr, length, string_bytes};
 ghost use Rattle.hys_io.specs.Outside.{Rose, IfAppended, IfPut, IfTorn};
 ghost use Rattle.hys_app.specs.Lines.{refused_line};
 ghost use Rattle.hys_compile.specs.Text.{most_bytes, no_memory, IsCause, IsRefusal, IsCompiled, IsPlainText};
@@ -86,7 +86,7 @@ pub fn compile_text<F: Files, S: Sink>(
     ensures same { result ≡ Status.Source → F.held files.new ≡ F.held files.old }
     ensures cause { result ≡ Status.Write → (Rose (F.put_faults files.old) (F.put_faults files.new) ⊎ Rose (S.faults out.old) (S.faults out.new)) }
     ensures kept { Kept (IsCompiled text.now) (F.held files.old) (F.held files.new) target.now }
-    ensures part { SomePart (IsCause text.now) (IsCompiled text.now) (S.written out.old) (S.written out.new) }
+    ensures part { SomePart (λ line. line ≡ []) (IsCause text.now) (IsCompiled text.now) (S.written out.old) (S.written out.new) }
     ensures whole { result ≡ Status.Memory → Whole (IsCompiled text.now) (F.held files.old) (F.held files.new) target.now }
     ensures reads { F.read_faults files.new ≡ F.read_faults files.old }
     ensures puts { F.put_faults files.old ≤ F.put_faults files.new }

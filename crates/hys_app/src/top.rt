@@ -2,7 +2,7 @@ ghost use Rattle.std.specs.Prelude.{◌≡◌, ◌≢◌, ◌≤◌, ◌⊎◌, 
 ghost use Rattle.hys_io.specs.Outside.{Rose, IfAppended};
 ghost use Rattle.hys_app.specs.Words.{form_of};
 ghost use Rattle.hys_app.specs.Lines.{usage_line, read_line};
-ghost use Rattle.hys_app.specs.Ends.{CausedBy, CompiledFrom, HoldsPlain, IfPart, IsPut, IsRefused, Kept, SomePart, Whole};
+ghost use Rattle.hys_app.specs.Ends.{CausedBy, CompiledFrom, HoldsPlain, IfPart, IsPut, IsReadLine, IsRefused, Kept, SomePart, Whole};
 
 use crate::Status;
 use crate::compile::{compile_text, refuse};
@@ -75,7 +75,7 @@ pub fn run<F: Files, S: Sink>(
     ensures whole { (source target : List ℕ) → form_of (map string_bytes words.now.items) ≡ Some (source, target) →
         result ≡ Status.Memory → Whole (CompiledFrom (F.held files.old) source) (F.held files.old) (F.held files.new) target }
     ensures part { (source target : List ℕ) → form_of (map string_bytes words.now.items) ≡ Some (source, target) →
-        SomePart (CausedBy (F.held files.old) source) (CompiledFrom (F.held files.old) source) (S.written out.old) (S.written out.new) }
+        SomePart (IsReadLine source) (CausedBy (F.held files.old) source) (CompiledFrom (F.held files.old) source) (S.written out.old) (S.written out.new) }
 {
     match compile_form(words) {
         None => say(out, usage(), Status::Usage),
@@ -84,7 +84,7 @@ pub fn run<F: Files, S: Sink>(
 }
 
 // Reads the source, and compiles it where it was read.
-#[tactic(auto, using(crate::proofs::Ends::none_some))]
+#[tactic(auto, using(crate::proofs::Ends::none_read, crate::proofs::Ends::read_part))]
 fn read_and_compile<F: Files, S: Sink>(
     alloc: Global,
     source: &str,
@@ -109,7 +109,7 @@ fn read_and_compile<F: Files, S: Sink>(
     ensures done { result ≡ Status.Done → IsPut (CompiledFrom (F.held files.old) source.now) (F.held files.old) (F.held files.new) (S.written out.old) (S.written out.new) target.now }
     ensures kept { Kept (CompiledFrom (F.held files.old) source.now) (F.held files.old) (F.held files.new) target.now }
     ensures whole { result ≡ Status.Memory → Whole (CompiledFrom (F.held files.old) source.now) (F.held files.old) (F.held files.new) target.now }
-    ensures part { SomePart (CausedBy (F.held files.old) source.now) (CompiledFrom (F.held files.old) source.now) (S.written out.old) (S.written out.new) }
+    ensures part { SomePart (IsReadLine source.now) (CausedBy (F.held files.old) source.now) (CompiledFrom (F.held files.old) source.now) (S.written out.old) (S.written out.new) }
 {
     match read_all(alloc, files, source, MOST_BYTES) {
         Err(ReadFault::Fault) => match read_failed(alloc, source) {

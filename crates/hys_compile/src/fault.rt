@@ -39,16 +39,22 @@ pub struct SourceFault {
 }
 
 impl SourceFault {
+    /// No blank, comment or token begins at the place.
     pub const BYTE: u8 = 1;
 
+    /// The comment that begins at the place has no end.
     pub const COMMENT: u8 = 2;
 
+    /// The name or literal that begins at the place is too long.
     pub const LONG: u8 = 3;
 
+    /// No source goes on with the token at the place, or with the end of the text there.
     pub const SYNTAX: u8 = 4;
 
+    /// A limit is passed.
     pub const LIMIT: u8 = 18;
 
+    /// The source is one that isn't built yet.
     pub const NOT_YET: u8 = 19;
 
     // A fault of this number at a place.

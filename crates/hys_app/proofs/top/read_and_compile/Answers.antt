@@ -1,6 +1,6 @@
 use Rattle.std.proofs.Common.{Err, ap, sym, subst}
 use Rattle.hys_app.specs.Ends.{CausedBy}
-use Rattle.hys_app.proofs.Ends.{over_file, kept_from, fault_part, fault_said}
+use Rattle.hys_app.proofs.Ends.{over_file, kept_from, part_from, fault_part, fault_said}
 use Rattle.hys_app.proofs.top.read_and_compile.Goals as goal
 
 pub returns-in-Err-TooLong-clause-refused : goal.returns-in-Err-TooLong-clause-refused
@@ -19,3 +19,8 @@ pub returns-in-Ok-clause-kept : goal.returns-in-Ok-clause-kept
 returns-in-Ok-clause-kept g c =
     kept_from (g.F.Files.held c.args.files.now) (g.F.Files.held c.read_all.new.files) (g.F.Files.held c.compile_text.new.files) c.args.source.now c.args.target.now c.in-Ok.text.items c.deref.result.now
     c.in-Ok.ensures.same c.deref.ensures.value c.in-Ok.ensures.whole c.compile_text.ensures.kept
+
+pub returns-in-Ok-clause-part : goal.returns-in-Ok-clause-part
+returns-in-Ok-clause-part g c =
+    part_from (g.F.Files.held c.args.files.now) c.args.source.now c.in-Ok.text.items c.deref.result.now (g.S.Sink.written c.args.out.now) (g.S.Sink.written c.compile_text.new.out)
+    c.deref.ensures.value c.in-Ok.ensures.whole c.compile_text.ensures.part
