@@ -14,12 +14,12 @@ use Rattle.hys_ast.specs.declared.source.Kind.{Kind}
 use Rattle.hys_ast.specs.Tree.{Tree, Decl, Shape, Item, Source}
 use Rattle.hys_ast.specs.Tree as tree
 use Rattle.hys_ast.specs.Nodes.{nodes, total, expressions}
-use Rattle.hys_ast.specs.Values.{Assignment}
-use Rattle.hys_ast.specs.Names.{Name, names, name_of, look, parameters, is_auxiliary, is_output, is_parameter}
-use Rattle.hys_ast.specs.Forms.{form, IsConstant}
-use Rattle.hys_ast.specs.Typed.{IsReal, IsOfKind, IsMaybe, IsPlain, ValuesTyped, BoxTyped, ItemTyped, RightTyped, differ, is_real, is_left, any_kind, may_stand, left, has_value}
-use Rattle.hys_ast.specs.Circular.{Circular, IsAuxiliary}
-use Rattle.hys_ast.specs.Accepted.{Accepted}
+use Rattle.hys_meaning.specs.Values.{Assignment}
+use Rattle.hys_meaning.specs.Names.{Name, names, name_of, look, parameters, is_auxiliary, is_output, is_parameter}
+use Rattle.hys_meaning.specs.Forms.{form, IsConstant}
+use Rattle.hys_meaning.specs.Typed.{IsReal, IsOfKind, IsMaybe, IsPlain, ValuesTyped, BoxTyped, ItemTyped, RightTyped, differ, is_real, is_left, any_kind, may_stand, left, has_value}
+use Rattle.hys_meaning.specs.Circular.{Circular, IsAuxiliary}
+use Rattle.hys_meaning.specs.Accepted.{Accepted}
 use Rattle.hys_plain.specs.Plain as plain
 use Rattle.hys_plain.specs.Plain.{is_sum, is_part, is_literal, is_signed_literal, is_name, is_end, is_right_side, is_plain_shape, is_plain_decl, is_plain_item, names_in, lone_literals, declared_texts}
 use Rattle.hys_compile.proofs.Declared.{IsPlainName, IsPlainDecl, plain_decl, plain_names, texts_are, other}

@@ -9,9 +9,9 @@ use Rattle.hys_lin.specs.declared.form.Affine.{Affine}
 use Rattle.hys_lex.specs.declared.token.Token.{Token}
 use Rattle.hys_ast.specs.declared.source.Kind.{Kind}
 use Rattle.hys_ast.specs.Tree.{Source}
-use Rattle.hys_ast.specs.Values.{Assignment}
-use Rattle.hys_ast.specs.Names.{Name, names, texts, is_state, is_input, is_output, is_parameter, is_auxiliary}
-use Rattle.hys_ast.specs.Steps.{Step, Legal, CaseOf, Demand, InGap}
+use Rattle.hys_meaning.specs.Values.{Assignment}
+use Rattle.hys_meaning.specs.Names.{Name, names, texts, is_state, is_input, is_output, is_parameter, is_auxiliary}
+use Rattle.hys_meaning.specs.Steps.{Step, Legal, CaseOf, Demand, InGap}
 use Rattle.hys_plain.specs.Plain.{IsPlain, declared_texts}
 use Rattle.hys_plain.specs.Meant.{PartsOf, columns, AreNext}
 use Rattle.hys_plain.specs.declared.parts.PlainParts.{PlainParts}

@@ -13,11 +13,11 @@ use Rattle.hys_ast.specs.declared.source.Section.{Section}
 use Rattle.hys_ast.specs.declared.source.Section.TheVariants as section
 use Rattle.hys_ast.specs.Tree.{Tree, Decl, Shape, Item, Source}
 use Rattle.hys_ast.specs.Tree as tree
-use Rattle.hys_ast.specs.Values.{Assignment, value}
-use Rattle.hys_ast.specs.Names.{Name, name_of, names, parameters, look, is_state}
-use Rattle.hys_ast.specs.Typed.{is_real, is_left, is_defined, defines, LeftTyped}
-use Rattle.hys_ast.specs.Circular.{SomeItem}
-use Rattle.hys_ast.specs.Steps.{OfLeft, Case, CaseOf, Next, NextOf, Demand, DemandOf, InGap, GapAt}
+use Rattle.hys_meaning.specs.Values.{Assignment, value}
+use Rattle.hys_meaning.specs.Names.{Name, name_of, names, parameters, look, is_state}
+use Rattle.hys_meaning.specs.Typed.{is_real, is_left, is_defined, defines, LeftTyped}
+use Rattle.hys_meaning.specs.Circular.{SomeItem}
+use Rattle.hys_meaning.specs.Steps.{OfLeft, Case, CaseOf, Next, NextOf, Demand, DemandOf, InGap, GapAt}
 use Rattle.hys_plain.specs.Plain.{IsPlain, is_plain_item, is_plain_shape, is_continuous, declared_texts}
 use Rattle.hys_plain.specs.Meant.{columns, IsValueOf, AreNext}
 

@@ -5,8 +5,8 @@ use Rattle.hys_ast.specs.declared.source.Section.{Section}
 use Rattle.hys_ast.specs.declared.source.Kind.{Kind}
 use Rattle.hys_ast.specs.declared.source.Kind.TheVariants as source
 use Rattle.hys_ast.specs.Tree.{Source}
-use Rattle.hys_ast.specs.Names.{Name, names, is_state, is_input, is_auxiliary, is_output}
-use Rattle.hys_ast.specs.Steps.{Legal}
+use Rattle.hys_meaning.specs.Names.{Name, names, is_state, is_input, is_auxiliary, is_output}
+use Rattle.hys_meaning.specs.Steps.{Legal}
 use Rattle.hys_sys.specs.declared.system.Kind2.{Kind2}
 use Rattle.hys_sys.specs.declared.system.Kind2.TheVariants as kind
 use Rattle.hys_sys.specs.declared.system.System.{System}

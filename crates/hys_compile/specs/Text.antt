@@ -9,7 +9,7 @@ use Rattle.hys_ast.specs.Tree.{Source}
 use Rattle.hys_ast.specs.Places.{place_at}
 use Rattle.hys_ast.specs.Nodes.{expressions, total, largest}
 use Rattle.hys_ast.specs.Grammar.{IsTreeOf}
-use Rattle.hys_ast.specs.Accepted.{Accepted}
+use Rattle.hys_meaning.specs.Accepted.{Accepted}
 use Rattle.hys_parse.specs.Depth.{IsShallow, IsFirstDeep}
 use Rattle.hys_parse.specs.Cause.{IsUngrammatical}
 use Rattle.hys_plain.specs.Plain.{IsPlain, unbuilt_place}

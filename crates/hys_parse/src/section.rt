@@ -13,7 +13,7 @@ use crate::draft::{Draft, Part};
 use crate::item::items;
 use crate::stop::Stop;
 use hys_ast::{Decl, Lexeme, Section, Source};
-use hys_frac::List;
+use hys_base::List;
 use hys_lex::{TokenKind, keyword, sign};
 use std::alloc::Global;
 

@@ -11,9 +11,9 @@ use Rattle.hys_ast.specs.declared.source.Section.{Section}
 use Rattle.hys_ast.specs.declared.source.Section.TheVariants as section
 use Rattle.hys_ast.specs.Seen.{decl_of, item_of}
 use Rattle.hys_ast.specs.Tree.{Decl, Item, Source}
-use Rattle.hys_ast.specs.Values.{Assignment}
-use Rattle.hys_ast.specs.Names.{Name, name_of, parameters, look, is_state}
-use Rattle.hys_ast.specs.Typed.{differ, has_box, IsBox, is_left, is_real, LeftTyped}
+use Rattle.hys_meaning.specs.Values.{Assignment}
+use Rattle.hys_meaning.specs.Names.{Name, name_of, parameters, look, is_state}
+use Rattle.hys_meaning.specs.Typed.{differ, has_box, IsBox, is_left, is_real, LeftTyped}
 use Rattle.hys_plain.specs.Plain.{IsPlain, is_plain_kind, is_plain_decl, is_continuous, is_plain_shape, is_plain_item}
 use Rattle.hys_plain.specs.Tests.{texts_of, IsBoxed, has_state, is_item, IsDefined}
 use Rattle.hys_plain.specs.Built.{IsPlainTree}
