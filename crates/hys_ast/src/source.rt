@@ -43,6 +43,8 @@ pub struct Decl {
 #[derive(Debug, Drop)]
 pub enum Shape {
     Plain(Expr),
+    /// A comparison in AD and its own tolerance.
+    Wide(Expr, Expr),
     /// The condition, the THEN and the ELSE of a choice.
     Choice(Expr, Expr, Option<Expr>),
 }

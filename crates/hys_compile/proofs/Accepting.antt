@@ -118,6 +118,7 @@ shape_real ns ds (tree.Plain e) d h p =
     let u = and_parts _ (nat_le (lone_literals e) 1) t.0 in
     let z = and_parts (is_sum e) (differ (names_in e)) u.0 in
     sum_real ns e z.0 (all_known ns (names_in e) h (subst (λ (xs : List (List ℕ)). IsTrue (list_all (λ m. list_any (bytes_eq m) xs) (names_in e))) d t.1))
+shape_real ns ds (tree.Wide a b) d h p = absurd (true≢false (sym p))
 shape_real ns ds (tree.Choice a b c) d h p = absurd (true≢false (sym p))
 
 item_typed : (ns : List Name) (ds : List (List ℕ)) → ds ≡ map (λ n. n.text) ns → AllByRecursion IsPlainName ns → (i : Item) → IsTrue (is_plain_item ds i) → RightTyped i.section ns (left ns i.name) i.shape

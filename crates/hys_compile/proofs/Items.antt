@@ -76,6 +76,7 @@ once w is m (d ∷ ds) h k =
 -- ---- the value of the item that defines a name
 abbrev pub value_in : Assignment → Shape → Number
 value_in w (tree.Plain e) = value w e
+value_in w (tree.Wide a b) = whole 0
 value_in w (tree.Choice a b c) = whole 0
 
 -- the first of them, else 0
@@ -112,6 +113,7 @@ next_at : (ns : List Name) (ds : List (List ℕ)) (w after : Assignment) (t : Se
     OfLeft (λ m. Next t ns w after m r) n
 next_at ns ds w after t None r e p h = tt
 next_at ns ds w after t (Some m) (tree.Plain a) e p h = subst (λ (z : Section). Next z ns w after m (tree.Plain a)) (sym e) h
+next_at ns ds w after t (Some m) (tree.Wide a b) e p h = absurd (true≢false (sym p))
 next_at ns ds w after t (Some m) (tree.Choice a b c) e p h = absurd (true≢false (sym p))
 
 has_value : (w after : Assignment) (is : List Item) (n : Option (List ℕ)) (r : Shape) → OfLeft (λ m. counted m is ≡ 1) n → ((m : List ℕ) → counted m is ≤ 1 → defines m n ≡ true → after m ≡ value_in w r) → OfLeft (λ m. after m ≡ value_in w r) n
@@ -137,6 +139,7 @@ next_each s w h =
 value_of : (ns : List Name) (f : Affine) (w after : Assignment) (n : List ℕ) (t : Section) (m : Option (List ℕ)) (r : Shape) → t ≡ section.Continuous → IsTrue (defines n m) → IsValueOf ns f r →
     OfLeft (λ k. Next t ns w after k r) m → sums.value f (sums.at (map w (columns ns))) ≡ after n
 value_of ns f w after n t None r e d v h = absurd (true≢false (sym d))
+value_of ns f w after n t (Some m) (tree.Wide a b) e d v h = absurd v
 value_of ns f w after n t (Some m) (tree.Choice a b c) e d v h = absurd v
 value_of ns f w after n t (Some m) (tree.Plain a) e d v h =
     let next : after m ≡ value w a = subst (λ (z : Section). Next z ns w after m (tree.Plain a)) e h in

@@ -81,6 +81,7 @@ else_form ns None = number_form (whole 0)
 -- then its ELSE form
 abbrev pub ranged : List Name → Section → Shape → List Form
 ranged ns section.Ad (tree.Plain e) = guard_form ns e ∷ []
+ranged ns section.Ad (tree.Wide a b) = guard_form ns a ∷ []
 ranged ns section.Linear (tree.Plain e) = form ns e ∷ []
 ranged ns section.Da (tree.Choice a b c) = form ns b ∷ else_form ns c ∷ []
 ranged ns _ _ = []

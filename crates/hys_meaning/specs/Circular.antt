@@ -32,6 +32,7 @@ InMaybe P None = ⊥
 -- factor in the guard number or in an affine form
 abbrev pub MentionedIn : Section → List Name → List ℕ → Shape → Type 0
 MentionedIn section.Ad ns n (tree.Plain e) = HasFactor n (guard_form ns e)
+MentionedIn section.Ad ns n (tree.Wide a b) = HasFactor n (guard_form ns a)
 MentionedIn section.Logic ns n (tree.Plain e) = IsTrue (stands n e)
 MentionedIn section.Linear ns n (tree.Plain e) = HasFactor n (form ns e)
 MentionedIn section.Da ns n (tree.Choice a b c) = IsTrue (stands n a) ⊎ (HasFactor n (form ns b) ⊎ InMaybe (λ e. HasFactor n (form ns e)) c)

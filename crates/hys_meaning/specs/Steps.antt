@@ -26,6 +26,7 @@ else_value w None = whole 0
 -- what the item says of the auxiliary at its left
 abbrev pub Case : Section → Assignment → List ℕ → Shape → Type 0
 Case section.Ad w n (tree.Plain e) = GuardCase w n (guard_number w e)
+Case section.Ad w n (tree.Wide a b) = GuardCase w n (guard_number w a)
 Case section.Da w n (tree.Choice a b c) = w n ≡ cond (truth w a) (value w b) (else_value w c)
 Case section.Logic w n (tree.Plain e) = w n ≡ bit (truth w e)
 Case section.Linear w n (tree.Plain e) = w n ≡ value w e
@@ -74,6 +75,7 @@ GapOf tolerance g = (whole 0 <ₙ g) × (g <ₙ tolerance)
 
 abbrev pub GapAt : Section → Number → Assignment → Shape → Type 0
 GapAt section.Ad tolerance w (tree.Plain e) = GapOf tolerance (guard_number w e)
+GapAt section.Ad tolerance w (tree.Wide a b) = GapOf (value w b) (guard_number w a)
 GapAt _ tolerance w _ = ⊥
 
 -- the item's guard number is above 0 and below the tolerance

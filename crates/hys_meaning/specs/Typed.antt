@@ -123,12 +123,20 @@ suits _ n = false
 -- the right side is an expression
 abbrev pub IsPlain : (Tree → Type 0) → Shape → Type 0
 IsPlain P (tree.Plain e) = P e
+IsPlain P (tree.Wide a b) = ⊥
 IsPlain P (tree.Choice a b c) = ⊥
 
 -- the right side is a choice: a formula, and real expressions
 abbrev pub IsChoice : List Name → Shape → Type 0
 IsChoice ns (tree.Plain e) = ⊥
+IsChoice ns (tree.Wide a b) = ⊥
 IsChoice ns (tree.Choice a b c) = IsFormula ns a × IsReal ns b × IsMaybe (IsReal ns) c
+
+-- the right side is a comparison, maybe with a tolerance, which is constant and real
+abbrev pub IsGuard : List Name → Shape → Type 0
+IsGuard ns (tree.Plain e) = IsComparison is_inequality ns e
+IsGuard ns (tree.Wide a b) = IsComparison is_inequality ns a × IsReal (only_parameters ns) b
+IsGuard ns (tree.Choice a b c) = ⊥
 
 abbrev pub IsOfName : List Name → Option Name → Tree → Type 0
 IsOfName ns (Some n) e = IsOfKind n.kind ns e
@@ -136,7 +144,7 @@ IsOfName ns None e = ⊥
 
 -- the right side suits the section; an output has its declared kind
 abbrev pub RightTyped : Section → List Name → Option Name → Shape → Type 0
-RightTyped section.Ad ns n r = IsPlain (IsComparison is_inequality ns) r
+RightTyped section.Ad ns n r = IsGuard ns r
 RightTyped section.Da ns n r = IsChoice ns r
 RightTyped section.Logic ns n r = IsPlain (IsFormula ns) r
 RightTyped section.Linear ns n r = IsPlain (IsReal ns) r

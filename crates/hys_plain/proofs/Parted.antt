@@ -142,6 +142,7 @@ item_forms ns is h = all_more (λ i. IsTrue (is_plain_item ns i)) (λ i. IsTrue 
   where
     shaped : (r : Shape) → is_plain_shape ns r ≡ true → is_form r ≡ true
     shaped (tree.Plain e) k = refl
+    shaped (tree.Wide a b) k = absurd (grind arith)
     shaped (tree.Choice a b c) k = absurd (grind arith)
 
 pub right_of : (ns : List (List ℕ)) (n : List ℕ) (e : Tree) (is : List Item) → SomeItem (IsRightOf n e) is → AllByRecursion (λ i. IsTrue (is_plain_item ns i)) is → is_right_side ns e ≡ true

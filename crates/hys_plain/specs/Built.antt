@@ -43,6 +43,7 @@ names_of bs = map (λ b. b.name) bs
 -- the right side is an expression
 abbrev pub is_form : Shape → Bool
 is_form (tree.Plain e) = true
+is_form (tree.Wide a b) = false
 is_form (tree.Choice a b c) = false
 
 -- the item defines the name, with this right side

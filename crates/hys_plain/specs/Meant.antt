@@ -23,6 +23,7 @@ columns ns = texts is_state ns ++ texts is_input ns
 -- under every assignment the form has the value of the right side
 abbrev pub IsValueOf : List Name → Affine → Shape → Type 0
 IsValueOf ns f (tree.Plain e) = (w : Assignment) → sums.value f (sums.at (map w (columns ns))) ≡ value w e
+IsValueOf ns f (tree.Wide a b) = ⊥
 IsValueOf ns f (tree.Choice a b c) = ⊥
 
 -- the form is that of the item that defines the name

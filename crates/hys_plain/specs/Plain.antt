@@ -150,6 +150,7 @@ is_continuous _ = false
 
 abbrev pub is_plain_shape : List (List ℕ) → Shape → Bool
 is_plain_shape declared (tree.Plain e) = is_right_side declared e
+is_plain_shape declared (tree.Wide a b) = false
 is_plain_shape declared (tree.Choice a b c) = false
 
 -- a next value in CONTINUOUS
