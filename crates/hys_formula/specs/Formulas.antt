@@ -2,6 +2,7 @@
 use Rattle.std.specs.Prelude.{ℕ, suc, ◌+◌, Bool, true, false, ◌&&◌, ◌||◌, not, pos}
 use Rattle.std.proofs.Common.{eqb, int_eq}
 use Rattle.hys_number.specs.Number.{Number}
+use Rattle.hys_lin.specs.Bits.{is_one}
 use Rattle.hys_lin.specs.Sums.{Assignment}
 use Rattle.hys_formula.specs.declared.formula.Connective.{Connective}
 use Rattle.hys_formula.specs.declared.formula.Connective.TheVariants.{And, Or, Iff, Then, From}
@@ -22,10 +23,6 @@ tree_of (Not' q f) = negated (tree_of f)
 tree_of (Join' c q f r g) = joined c (tree_of f) (tree_of g)
 
 -- ---- truth
--- whether the number is 1
-unfoldable pub is_one : Number → Bool
-is_one a = int_eq a.num (pos 1) && eqb a.den 1
-
 abbrev pub same : Bool → Bool → Bool
 same true b = b
 same false b = not b

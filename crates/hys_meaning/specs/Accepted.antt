@@ -3,6 +3,7 @@ use Rattle.std.specs.Prelude.{ℕ, ◌≤◌, List, length}
 use Rattle.std.specs.List.{AllByRecursion}
 use Rattle.hys_ast.specs.Tree.{Source}
 use Rattle.hys_ast.specs.Nodes.{nodes, expressions, total}
+use Rattle.hys_meaning.specs.Unfolded.{unfolded}
 use Rattle.hys_meaning.specs.Typed.{Typed, Bounded, DeclaredOnce, HaveValues, DefinedOnce}
 use Rattle.hys_meaning.specs.Circular.{Circular}
 
@@ -12,14 +13,14 @@ pub record WithinLimits (s : Source) : Type 0 where
   pub expression : AllByRecursion (λ e. nodes e ≤ 1000) (expressions s)
   pub nodes : total (expressions s) ≤ 4000
 
--- The tree is that of an accepted source: typed and bounded, each name declared once, each
--- parameter with a value, each AUX, STATE and OUTPUT name defined exactly once, no list circular,
--- and within the limits.
+-- The tree is that of an accepted source: with each guard named it is typed and bounded, each name is
+-- declared once, each parameter has a value, each AUX, STATE and OUTPUT name is defined exactly once, and no
+-- list is circular. The limits are those of the source as written, in which unnamed guards don't count.
 pub record Accepted (s : Source) : Type 0 where
-  pub declared : DeclaredOnce s
-  pub values : HaveValues s
-  pub typed : Typed s
-  pub bounded : Bounded s
-  pub defined : DefinedOnce s
-  pub orders : (ns : List (List ℕ)) → ¬ (Circular s ns)
+  pub declared : DeclaredOnce (unfolded s)
+  pub values : HaveValues (unfolded s)
+  pub typed : Typed (unfolded s)
+  pub bounded : Bounded (unfolded s)
+  pub defined : DefinedOnce (unfolded s)
+  pub orders : (ns : List (List ℕ)) → ¬ (Circular (unfolded s) ns)
   pub limits : WithinLimits s

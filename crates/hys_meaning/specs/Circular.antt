@@ -3,12 +3,12 @@ use Rattle.std.specs.Prelude.{ℕ, List, [], ◌∷◌, Option, Some, None, Bool
 use Rattle.std.specs.Str.{bytes_eq}
 use Rattle.std.specs.List.{AllByRecursion}
 use Rattle.hys_number.specs.Ops.{whole}
-use Rattle.hys_ast.specs.declared.source.Section.{Section}
-use Rattle.hys_ast.specs.declared.source.Section.TheVariants as section
-use Rattle.hys_ast.specs.Tree.{Tree, Shape, Item, Source}
+use Rattle.hys_ast.specs.Tree.{Tree, Item, Source}
 use Rattle.hys_ast.specs.Tree as tree
 use Rattle.hys_meaning.specs.Names.{Name, names, look, is_auxiliary}
 use Rattle.hys_meaning.specs.Forms.{Form, form, guard_form}
+use Rattle.hys_meaning.specs.Bodies.{Body}
+use Rattle.hys_meaning.specs.Bodies as body
 use Rattle.hys_meaning.specs.Typed.{differ, any_kind, is_left, defines}
 
 -- the name stands in the expression
@@ -29,14 +29,17 @@ InMaybe P (Some e) = P e
 InMaybe P None = ⊥
 
 -- the right side mentions the name: the name stands in the formula or the condition, or has a
--- factor in the guard number or in an affine form
-abbrev pub MentionedIn : Section → List Name → List ℕ → Shape → Type 0
-MentionedIn section.Ad ns n (tree.Plain e) = HasFactor n (guard_form ns e)
-MentionedIn section.Ad ns n (tree.Wide a b) = HasFactor n (guard_form ns a)
-MentionedIn section.Logic ns n (tree.Plain e) = IsTrue (stands n e)
-MentionedIn section.Linear ns n (tree.Plain e) = HasFactor n (form ns e)
-MentionedIn section.Da ns n (tree.Choice a b c) = IsTrue (stands n a) ⊎ (HasFactor n (form ns b) ⊎ InMaybe (λ e. HasFactor n (form ns e)) c)
-MentionedIn _ ns n _ = ⊥
+-- factor in the guard number or in an affine form; a tolerance mentions none
+abbrev pub MentionedIn : List Name → List ℕ → Body → Type 0
+MentionedIn ns n (body.Guard e t) = HasFactor n (guard_form ns e)
+MentionedIn ns n (body.Choice a b c) = IsTrue (stands n a) ⊎ (HasFactor n (form ns b) ⊎ InMaybe (λ e. HasFactor n (form ns e)) c)
+MentionedIn ns n (body.Logic e) = IsTrue (stands n e)
+MentionedIn ns n (body.Linear e) = HasFactor n (form ns e)
+MentionedIn ns n (body.NextBool e) = ⊥
+MentionedIn ns n (body.NextReal e) = ⊥
+MentionedIn ns n (body.Output e) = ⊥
+MentionedIn ns n (body.Must e) = ⊥
+MentionedIn ns n body.Nothing = ⊥
 
 -- the property holds of an item of the list
 abbrev pub SomeItem : (Item → Type 0) → List Item → Type 0
@@ -45,7 +48,7 @@ SomeItem P (i ∷ is) = P i ⊎ SomeItem P is
 
 -- an item of the source defines the one name and mentions the other
 abbrev pub Leads : Source → List ℕ → List ℕ → Type 0
-Leads s n m = SomeItem (λ i. IsTrue (defines n i.name) × MentionedIn i.section (names s) m i.shape) s.items
+Leads s n m = SomeItem (λ i. IsTrue (defines n i.name) × MentionedIn (names s) m (body.body i)) s.items
 
 -- each name mentions the next, and the last mentions the name that is given
 abbrev pub LeadsTo : Source → List ℕ → List (List ℕ) → Type 0

@@ -74,7 +74,11 @@ folding ns binary.Div f g = each over ns f.factor (λ n. g.constant) f.constant 
 folding ns binary.Most f g = matched minus ns f g
 folding ns binary.Least f g = matched minus ns g f
 folding ns binary.Equal f g = matched minus ns f g
-folding ns _ f g = []
+folding ns binary.And f g = []
+folding ns binary.Or f g = []
+folding ns binary.Iff f g = []
+folding ns binary.Then f g = []
+folding ns binary.From f g = []
 
 -- The numbers of an expression, operands first. A sign needs none, since what it gives fits where
 -- its operand does; no more does a name or a cast, whose factor is 1 or whose value was computed

@@ -42,7 +42,14 @@ combined binary.Add f g = record { factor = λ n. f.factor n +ₙ g.factor n; co
 combined binary.Sub f g = record { factor = λ n. f.factor n -ₙ g.factor n; constant = f.constant -ₙ g.constant }
 combined binary.Mul f g = product f g
 combined binary.Div f g = record { factor = λ n. f.factor n /ₙ g.constant; constant = f.constant /ₙ g.constant }
-combined _ f g = number_form (whole 0)
+combined binary.And f g = number_form (whole 0)
+combined binary.Or f g = number_form (whole 0)
+combined binary.Iff f g = number_form (whole 0)
+combined binary.Then f g = number_form (whole 0)
+combined binary.From f g = number_form (whole 0)
+combined binary.Most f g = number_form (whole 0)
+combined binary.Least f g = number_form (whole 0)
+combined binary.Equal f g = number_form (whole 0)
 
 -- the affine form of a real expression over the declared names
 abbrev pub form : List Name → tree.Tree → Form
@@ -60,14 +67,34 @@ Folds binary.Add f g = Unit {0}
 Folds binary.Sub f g = Unit {0}
 Folds binary.Mul f g = IsConstant f ⊎ IsConstant g
 Folds binary.Div f g = IsConstant g × (g.constant ≢ whole 0)
-Folds _ f g = ⊥
+Folds binary.And f g = ⊥
+Folds binary.Or f g = ⊥
+Folds binary.Iff f g = ⊥
+Folds binary.Then f g = ⊥
+Folds binary.From f g = ⊥
+Folds binary.Most f g = ⊥
+Folds binary.Least f g = ⊥
+Folds binary.Equal f g = ⊥
 
 -- the form of a guard number
 abbrev pub guard_between : BinaryOp → Form → Form → Form
 guard_between binary.Most f g = combined binary.Sub f g
 guard_between binary.Least f g = combined binary.Sub g f
-guard_between _ f g = number_form (whole 0)
+guard_between binary.Add f g = number_form (whole 0)
+guard_between binary.Sub f g = number_form (whole 0)
+guard_between binary.Mul f g = number_form (whole 0)
+guard_between binary.Div f g = number_form (whole 0)
+guard_between binary.And f g = number_form (whole 0)
+guard_between binary.Or f g = number_form (whole 0)
+guard_between binary.Iff f g = number_form (whole 0)
+guard_between binary.Then f g = number_form (whole 0)
+guard_between binary.From f g = number_form (whole 0)
+guard_between binary.Equal f g = number_form (whole 0)
 
 abbrev pub guard_form : List Name → tree.Tree → Form
+guard_form ns (tree.Number text p) = number_form (whole 0)
+guard_form ns (tree.Name n p) = number_form (whole 0)
+guard_form ns (tree.Truth b p) = number_form (whole 0)
+guard_form ns (tree.Cast n p) = number_form (whole 0)
+guard_form ns (tree.Unary op a p) = number_form (whole 0)
 guard_form ns (tree.Binary op a b p) = guard_between op (form ns a) (form ns b)
-guard_form ns _ = number_form (whole 0)

@@ -24,23 +24,78 @@ pub record Name : Type 0 where
 -- ---- the part that a name has
 abbrev pub is_state : Section → Bool
 is_state section.State = true
-is_state _ = false
+is_state section.Input = false
+is_state section.Output = false
+is_state section.Parameter = false
+is_state section.Aux = false
+is_state section.Ad = false
+is_state section.Da = false
+is_state section.Logic = false
+is_state section.Linear = false
+is_state section.Automata = false
+is_state section.Continuous = false
+is_state section.OutputItem = false
+is_state section.Must = false
 
 abbrev pub is_input : Section → Bool
+is_input section.State = false
 is_input section.Input = true
-is_input _ = false
+is_input section.Output = false
+is_input section.Parameter = false
+is_input section.Aux = false
+is_input section.Ad = false
+is_input section.Da = false
+is_input section.Logic = false
+is_input section.Linear = false
+is_input section.Automata = false
+is_input section.Continuous = false
+is_input section.OutputItem = false
+is_input section.Must = false
 
 abbrev pub is_output : Section → Bool
+is_output section.State = false
+is_output section.Input = false
 is_output section.Output = true
-is_output _ = false
+is_output section.Parameter = false
+is_output section.Aux = false
+is_output section.Ad = false
+is_output section.Da = false
+is_output section.Logic = false
+is_output section.Linear = false
+is_output section.Automata = false
+is_output section.Continuous = false
+is_output section.OutputItem = false
+is_output section.Must = false
 
 abbrev pub is_parameter : Section → Bool
+is_parameter section.State = false
+is_parameter section.Input = false
+is_parameter section.Output = false
 is_parameter section.Parameter = true
-is_parameter _ = false
+is_parameter section.Aux = false
+is_parameter section.Ad = false
+is_parameter section.Da = false
+is_parameter section.Logic = false
+is_parameter section.Linear = false
+is_parameter section.Automata = false
+is_parameter section.Continuous = false
+is_parameter section.OutputItem = false
+is_parameter section.Must = false
 
 abbrev pub is_auxiliary : Section → Bool
+is_auxiliary section.State = false
+is_auxiliary section.Input = false
+is_auxiliary section.Output = false
+is_auxiliary section.Parameter = false
 is_auxiliary section.Aux = true
-is_auxiliary _ = false
+is_auxiliary section.Ad = false
+is_auxiliary section.Da = false
+is_auxiliary section.Logic = false
+is_auxiliary section.Linear = false
+is_auxiliary section.Automata = false
+is_auxiliary section.Continuous = false
+is_auxiliary section.OutputItem = false
+is_auxiliary section.Must = false
 
 -- ---- values of parameters
 abbrev pub set_to : List ℕ → Number → Assignment → Assignment

@@ -2,7 +2,8 @@
 use Rattle.std.specs.Prelude.{◌≡◌, ℕ, List, [], ◌∷◌, ◌++◌, Option, Some, None, Bool, true, false, ◌&&◌, ◌||◌, not, ◌⊎◌, map, IsTrue}
 use Rattle.std.specs.Str.{bytes_eq}
 use Rattle.std.specs.List.{AllByRecursion, list_any, count_by, filter}
-use Rattle.hys_number.specs.Ops.{◌≤ₙ◌}
+use Rattle.hys_number.specs.Number.{Number}
+use Rattle.hys_number.specs.Ops.{◌≤ₙ◌, ◌<ₙ◌, whole}
 use Rattle.hys_ast.specs.declared.tree.UnaryOp.{UnaryOp}
 use Rattle.hys_ast.specs.declared.tree.UnaryOp.TheVariants as unary
 use Rattle.hys_ast.specs.declared.tree.BinaryOp.{BinaryOp}
@@ -11,11 +12,14 @@ use Rattle.hys_ast.specs.declared.source.Section.{Section}
 use Rattle.hys_ast.specs.declared.source.Section.TheVariants as section
 use Rattle.hys_ast.specs.declared.source.Kind.{Kind}
 use Rattle.hys_ast.specs.declared.source.Kind.TheVariants as kind
-use Rattle.hys_ast.specs.Tree.{Tree, Decl, Shape, Item, Source}
+use Rattle.hys_ast.specs.Tree.{Tree, Decl, Item, Source}
 use Rattle.hys_ast.specs.Tree as tree
 use Rattle.hys_meaning.specs.Values.{Assignment, value}
 use Rattle.hys_meaning.specs.Names.{Name, names, name_of, parameters, look, is_state, is_input, is_output, is_parameter, is_auxiliary}
 use Rattle.hys_meaning.specs.Forms.{form, Folds}
+use Rattle.hys_meaning.specs.Unfolded.{is_inequality}
+use Rattle.hys_meaning.specs.Bodies.{Body}
+use Rattle.hys_meaning.specs.Bodies as body
 
 -- ---- kinds
 abbrev pub is_real : Kind → Bool
@@ -38,15 +42,22 @@ is_sign unary.Plus = true
 
 abbrev pub is_negation : UnaryOp → Bool
 is_negation unary.Not = true
-is_negation _ = false
+is_negation unary.Neg = false
+is_negation unary.Plus = false
 
 abbrev pub is_connective : BinaryOp → Bool
+is_connective binary.Add = false
+is_connective binary.Sub = false
+is_connective binary.Mul = false
+is_connective binary.Div = false
 is_connective binary.And = true
 is_connective binary.Or = true
 is_connective binary.Iff = true
 is_connective binary.Then = true
 is_connective binary.From = true
-is_connective _ = false
+is_connective binary.Most = false
+is_connective binary.Least = false
+is_connective binary.Equal = false
 
 -- a real expression over the names, which folds to an affine form
 abbrev pub IsReal : List Name → Tree → Type 0
@@ -70,19 +81,28 @@ abbrev pub IsOfKind : Kind → List Name → Tree → Type 0
 IsOfKind kind.Real ns e = IsReal ns e
 IsOfKind kind.Bool ns e = IsFormula ns e
 
-abbrev pub is_inequality : BinaryOp → Bool
-is_inequality binary.Most = true
-is_inequality binary.Least = true
-is_inequality _ = false
-
 -- a comparison of two real expressions by one of some signs
 abbrev pub IsComparison : (BinaryOp → Bool) → List Name → Tree → Type 0
+IsComparison test ns (tree.Number text p) = ⊥
+IsComparison test ns (tree.Name n p) = ⊥
+IsComparison test ns (tree.Truth b p) = ⊥
+IsComparison test ns (tree.Cast n p) = ⊥
+IsComparison test ns (tree.Unary op a p) = ⊥
 IsComparison test ns (tree.Binary op a b p) = IsTrue (test op) × IsReal ns a × IsReal ns b
-IsComparison test ns _ = ⊥
 
 abbrev pub is_comparison : BinaryOp → Bool
+is_comparison binary.Add = false
+is_comparison binary.Sub = false
+is_comparison binary.Mul = false
+is_comparison binary.Div = false
+is_comparison binary.And = false
+is_comparison binary.Or = false
+is_comparison binary.Iff = false
+is_comparison binary.Then = false
+is_comparison binary.From = false
+is_comparison binary.Most = true
+is_comparison binary.Least = true
 is_comparison binary.Equal = true
-is_comparison op = is_inequality op
 
 -- ---- declarations
 abbrev pub IsMaybe : (Tree → Type 0) → Option Tree → Type 0
@@ -111,6 +131,11 @@ any_kind k = true
 
 -- the left name suits the section
 abbrev pub suits : Section → Option Name → Bool
+suits section.State n = false
+suits section.Input n = false
+suits section.Output n = false
+suits section.Parameter n = false
+suits section.Aux n = false
 suits section.Ad n = is_left is_auxiliary is_bool n
 suits section.Da n = is_left is_auxiliary is_real n
 suits section.Logic n = is_left is_auxiliary is_bool n
@@ -118,47 +143,55 @@ suits section.Linear n = is_left is_auxiliary is_real n
 suits section.Automata n = is_left is_state is_bool n
 suits section.Continuous n = is_left is_state is_real n
 suits section.OutputItem n = is_left is_output any_kind n
-suits _ n = false
+suits section.Must n = false
 
--- the right side is an expression
-abbrev pub IsPlain : (Tree → Type 0) → Shape → Type 0
-IsPlain P (tree.Plain e) = P e
-IsPlain P (tree.Wide a b) = ⊥
-IsPlain P (tree.Choice a b c) = ⊥
+-- the numbers of the parameters, and 0 for any other name
+abbrev pub value_or_zero : Option Name → Number
+value_or_zero (Some n) = n.value
+value_or_zero None = whole 0
 
--- the right side is a choice: a formula, and real expressions
-abbrev pub IsChoice : List Name → Shape → Type 0
-IsChoice ns (tree.Plain e) = ⊥
-IsChoice ns (tree.Wide a b) = ⊥
-IsChoice ns (tree.Choice a b c) = IsFormula ns a × IsReal ns b × IsMaybe (IsReal ns) c
+abbrev pub settled : List Name → Assignment
+settled ns n = value_or_zero (look ns n)
 
--- the right side is a comparison, maybe with a tolerance, which is constant and real
-abbrev pub IsGuard : List Name → Shape → Type 0
-IsGuard ns (tree.Plain e) = IsComparison is_inequality ns e
-IsGuard ns (tree.Wide a b) = IsComparison is_inequality ns a × IsReal (only_parameters ns) b
-IsGuard ns (tree.Choice a b c) = ⊥
+-- a tolerance is constant, real and above 0
+abbrev pub IsTolerance : List Name → Tree → Type 0
+IsTolerance ns e = IsReal (only_parameters ns) e × (whole 0 <ₙ value (settled ns) e)
 
 abbrev pub IsOfName : List Name → Option Name → Tree → Type 0
 IsOfName ns (Some n) e = IsOfKind n.kind ns e
 IsOfName ns None e = ⊥
 
 -- the right side suits the section; an output has its declared kind
-abbrev pub RightTyped : Section → List Name → Option Name → Shape → Type 0
-RightTyped section.Ad ns n r = IsGuard ns r
-RightTyped section.Da ns n r = IsChoice ns r
-RightTyped section.Logic ns n r = IsPlain (IsFormula ns) r
-RightTyped section.Linear ns n r = IsPlain (IsReal ns) r
-RightTyped section.Automata ns n r = IsPlain (IsFormula ns) r
-RightTyped section.Continuous ns n r = IsPlain (IsReal ns) r
-RightTyped section.OutputItem ns n r = IsPlain (IsOfName ns n) r
-RightTyped section.Must ns n r = IsPlain (λ e. IsFormula ns e ⊎ IsComparison is_comparison ns e) r
-RightTyped _ ns n r = ⊥
+abbrev pub RightTyped : List Name → Option Name → Body → Type 0
+RightTyped ns n (body.Guard e t) = IsComparison is_inequality ns e × IsMaybe (IsTolerance ns) t
+RightTyped ns n (body.Choice a b c) = IsFormula ns a × IsReal ns b × IsMaybe (IsReal ns) c
+RightTyped ns n (body.Logic e) = IsFormula ns e
+RightTyped ns n (body.Linear e) = IsReal ns e
+RightTyped ns n (body.NextBool e) = IsFormula ns e
+RightTyped ns n (body.NextReal e) = IsReal ns e
+RightTyped ns n (body.Output e) = IsOfName ns n e
+RightTyped ns n (body.Must e) = IsFormula ns e ⊎ IsComparison is_comparison ns e
+RightTyped ns n body.Nothing = ⊥
+
+-- the item demands something, and has no left name
+abbrev pub is_demand : Section → Bool
+is_demand section.State = false
+is_demand section.Input = false
+is_demand section.Output = false
+is_demand section.Parameter = false
+is_demand section.Aux = false
+is_demand section.Ad = false
+is_demand section.Da = false
+is_demand section.Logic = false
+is_demand section.Linear = false
+is_demand section.Automata = false
+is_demand section.Continuous = false
+is_demand section.OutputItem = false
+is_demand section.Must = true
 
 -- a MUST item has no left name, and each other one has a name that suits its section
 abbrev pub LeftTyped : Section → List Name → Option (List ℕ) → Type 0
-LeftTyped section.Must ns None = Unit {0}
-LeftTyped section.Must ns (Some n) = ⊥
-LeftTyped s ns None = ⊥
+LeftTyped s ns None = IsTrue (is_demand s)
 LeftTyped s ns (Some n) = IsTrue (suits s (look ns n))
 
 -- the declared name at the left of an item
@@ -167,7 +200,7 @@ left ns (Some n) = look ns n
 left ns None = None
 
 abbrev pub ItemTyped : List Name → Item → Type 0
-ItemTyped ns i = LeftTyped i.section ns i.name × RightTyped i.section ns (left ns i.name) i.shape
+ItemTyped ns i = LeftTyped i.section ns i.name × RightTyped ns (left ns i.name) (body.body i)
 
 pub record Typed (s : Source) : Type 0 where
   pub values : ValuesTyped (parameters s.decls) [] s.decls
@@ -180,7 +213,8 @@ has_box d = (is_state d.section || is_input d.section) && is_real d.kind
 
 abbrev pub IsBox : Assignment → Option Tree → Option Tree → Type 0
 IsBox w (Some low) (Some high) = value w low ≤ₙ value w high
-IsBox w _ _ = ⊥
+IsBox w (Some low) None = ⊥
+IsBox w None high = ⊥
 
 -- each real state and input has a box, whose low end is at most its high end
 abbrev pub Bounded : Source → Type 0

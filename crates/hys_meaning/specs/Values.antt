@@ -1,11 +1,11 @@
 -- What an expression says under an assignment: a real expression has a number, a formula a truth,
 -- node by node as written.
-use Rattle.std.specs.Prelude.{◌≡◌, ℕ, List, Bool, true, false, ◌&&◌, ◌||◌, not, nat_eq, pos, ◌⊎◌, cond}
-use Rattle.std.specs.Ordering.{int_eq}
+use Rattle.std.specs.Prelude.{ℕ, List, Bool, false, ◌&&◌, ◌||◌, not, cond}
 use Rattle.std.specs.Float.Numeral.{scan_numeral}
 use Rattle.hys_number.specs.Number.{Number}
 use Rattle.hys_number.specs.Ops.{◌+ₙ◌, ◌*ₙ◌, ◌-ₙ◌, ◌/ₙ◌, neg, whole}
 use Rattle.hys_frac.specs.Read.{literal_value}
+use Rattle.hys_lin.specs.Bits.{bit, is_one}
 use Rattle.hys_ast.specs.declared.tree.UnaryOp.{UnaryOp}
 use Rattle.hys_ast.specs.declared.tree.UnaryOp.TheVariants as unary
 use Rattle.hys_ast.specs.declared.tree.BinaryOp.{BinaryOp}
@@ -22,18 +22,6 @@ Assignment = List ℕ → Number
 unfoldable pub literal : List ℕ → Number
 literal text = literal_value (scan_numeral text)
 
--- a truth as a number
-abbrev pub bit : Bool → Number
-bit true = whole 1
-bit false = whole 0
-
-abbrev pub IsBit : Number → Type 0
-IsBit a = (a ≡ whole 0) ⊎ (a ≡ whole 1)
-
--- a Boolean name is true where its number is 1
-unfoldable pub is_one : Number → Bool
-is_one a = int_eq a.num (pos 1) && nat_eq a.den 1
-
 -- ---- real expressions
 abbrev pub signed : UnaryOp → Number → Number
 signed unary.Not a = whole 0
@@ -46,7 +34,14 @@ computed binary.Add a b = a +ₙ b
 computed binary.Sub a b = a -ₙ b
 computed binary.Mul a b = a *ₙ b
 computed binary.Div a b = a /ₙ b
-computed _ a b = whole 0
+computed binary.And a b = whole 0
+computed binary.Or a b = whole 0
+computed binary.Iff a b = whole 0
+computed binary.Then a b = whole 0
+computed binary.From a b = whole 0
+computed binary.Most a b = whole 0
+computed binary.Least a b = whole 0
+computed binary.Equal a b = whole 0
 
 -- the number of a real expression; a cast has the number of its name
 abbrev pub value : Assignment → tree.Tree → Number
@@ -70,7 +65,13 @@ joined binary.Or a b = a || b
 joined binary.Iff a b = cond a b (not b)
 joined binary.Then a b = not a || b
 joined binary.From a b = a || not b
-joined _ a b = false
+joined binary.Add a b = false
+joined binary.Sub a b = false
+joined binary.Mul a b = false
+joined binary.Div a b = false
+joined binary.Most a b = false
+joined binary.Least a b = false
+joined binary.Equal a b = false
 
 -- the truth of a formula
 abbrev pub truth : Assignment → tree.Tree → Bool
@@ -92,9 +93,22 @@ given kind.Bool w e = bit (truth w e)
 abbrev pub guard_of : BinaryOp → Number → Number → Number
 guard_of binary.Most a b = a -ₙ b
 guard_of binary.Least a b = b -ₙ a
-guard_of _ a b = whole 0
+guard_of binary.Add a b = whole 0
+guard_of binary.Sub a b = whole 0
+guard_of binary.Mul a b = whole 0
+guard_of binary.Div a b = whole 0
+guard_of binary.And a b = whole 0
+guard_of binary.Or a b = whole 0
+guard_of binary.Iff a b = whole 0
+guard_of binary.Then a b = whole 0
+guard_of binary.From a b = whole 0
+guard_of binary.Equal a b = whole 0
 
 -- the guard number of a comparison
 abbrev pub guard_number : Assignment → tree.Tree → Number
+guard_number w (tree.Number text p) = whole 0
+guard_number w (tree.Name n p) = whole 0
+guard_number w (tree.Truth b p) = whole 0
+guard_number w (tree.Cast n p) = whole 0
+guard_number w (tree.Unary op a p) = whole 0
 guard_number w (tree.Binary op a b p) = guard_of op (value w a) (value w b)
-guard_number w _ = whole 0
