@@ -29,7 +29,8 @@ fn right_side<'a>(items: &'a [Item], name: &Text) -> &'a Expr
         if defines(item, name) {
             match &item.shape {
                 Shape::Plain(whole) => return whole,
-                Shape::Wide(_, _) | Shape::Choice(_, _, _) => unreachable!(),
+                Shape::Wide(_, _) => unreachable!(),
+                Shape::Choice(_, _, _) => unreachable!(),
             }
         }
     }
