@@ -105,7 +105,7 @@ pub fn push_scaled(out: &mut Vec<Term>, by: Frac, terms: &[Term]) -> Result<(), 
 pub fn push(out: &mut Vec<Term>, column: u32, factor: Frac) -> Result<(), AllocFailed<Term>>
     ensures { out.new.items ≡ (if is_ok result then out.old.items ++ kept column factor else out.old.items) }
 {
-    if factor.num() == 0 {
+    if factor.is_zero() {
         return Ok(());
     }
     out.push(Term { column, factor })

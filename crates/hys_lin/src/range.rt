@@ -42,7 +42,7 @@ fn end(form: &Affine, boxes: &[Interval], greatest: bool) -> Result<Frac, Lost>
 fn side(factor: Frac, range: Interval, greatest: bool) -> Frac
     ensures { result ≡ end_by_sign greatest factor.num range }
 {
-    if (factor.num() < 0) == greatest {
+    if factor.is_negative() == greatest {
         range.low
     } else {
         range.high

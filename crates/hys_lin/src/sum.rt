@@ -16,7 +16,7 @@ pub fn dot(terms: &[Term], point: &Point) -> Result<Frac, Lost>
     ensures value { IfOk result (λ r. r ≡ sum_of terms.now (at point.now.values)) }
     ensures lost { result_err result ≡ first_lost (summing (whole 0) terms.now (λ t. at point.now.values t.column)) }
 {
-    sum_from(Frac::ZERO, terms, point)
+    sum_from(Frac::whole(0), terms, point)
 }
 
 /// The value of the form at the point, or the first product or partial sum that doesn't fit. The
