@@ -5,7 +5,8 @@ use Rattle.std.proofs.lemmas.Slice.Eq.{bytes_eq-Decides}
 use Rattle.hys_number.specs.Number.{Number}
 use Rattle.hys_number.specs.Ops.{◌+ₙ◌, ◌*ₙ◌, ◌≤ₙ◌, whole}
 use Rattle.hys_meaning.specs.Names.{names}
-use Rattle.hys_meaning.specs.Values.{Assignment, literal, bit}
+use Rattle.hys_lin.specs.Bits.{bit}
+use Rattle.hys_meaning.specs.Values.{Assignment, literal}
 use Rattle.hys_meaning.specs.Circular.{IsAuxiliary}
 use Rattle.hys_meaning.specs.Steps.{Legal}
 use Rattle.hys_meaning.specs.Accepted.{Accepted}

@@ -9,7 +9,8 @@ use Rattle.hys_number.proofs.Field.{add_zero}
 use Rattle.hys_frac.specs.Compare.{number_cmp}
 use Rattle.hys_lin.specs.Operations.{plus, minus, times}
 use Rattle.hys_ast.specs.declared.tree.BinaryOp.TheVariants as binary
-use Rattle.hys_meaning.specs.Values.{literal, is_one}
+use Rattle.hys_lin.specs.Bits.{is_one}
+use Rattle.hys_meaning.specs.Values.{literal}
 use Rattle.hys_meaning.specs.Names.{names}
 use Rattle.hys_meaning.specs.Circular.{Leads}
 use Rattle.hys_meaning.specs.Forms.{form, IsConstant}

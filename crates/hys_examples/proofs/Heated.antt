@@ -6,7 +6,8 @@ use Rattle.hys_number.specs.Number.{Number}
 use Rattle.hys_number.specs.Ops.{◌+ₙ◌, ◌-ₙ◌, ◌*ₙ◌, whole}
 use Rattle.hys_number.proofs.Field.{not-le, add_neg}
 use Rattle.hys_meaning.specs.Names.{names}
-use Rattle.hys_meaning.specs.Values.{Assignment, literal, bit, is_one}
+use Rattle.hys_lin.specs.Bits.{bit, is_one}
+use Rattle.hys_meaning.specs.Values.{Assignment, literal}
 use Rattle.hys_meaning.specs.Circular.{IsAuxiliary}
 use Rattle.hys_meaning.specs.Steps.{Legal, Run, stepped, ended, GuardCase, GapOf}
 use Rattle.hys_meaning.specs.Accepted.{Accepted}

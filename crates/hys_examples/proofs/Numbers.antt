@@ -10,7 +10,8 @@ use Rattle.hys_number.proofs.Order.{le_refl'}
 use Rattle.hys_number.specs.Gcd.{gcd}
 use Rattle.hys_ast.specs.declared.source.Kind.{Kind}
 use Rattle.hys_ast.specs.declared.source.Kind.TheVariants as kind
-use Rattle.hys_meaning.specs.Values.{literal, bit, IsBit, is_one}
+use Rattle.hys_lin.specs.Bits.{bit, IsBit, is_one}
+use Rattle.hys_meaning.specs.Values.{literal}
 
 pub literal-0 : literal (codes "0") ≡ ratio 0 0 1
 unfolding literal scan_numeral

@@ -6,7 +6,8 @@ use Rattle.hys_number.specs.Ops.{◌+ₙ◌, ◌-ₙ◌, ◌*ₙ◌, neg, ◌≤
 use Rattle.hys_number.proofs.Field.{parts, parts_of, add_zero, mul_comm, mul_one, not-le}
 use Rattle.hys_lin.specs.Sums.{at, value, Holds, Within}
 use Rattle.hys_lin.specs.declared.form.Affine.{Affine}
-use Rattle.hys_meaning.specs.Values.{Assignment, literal, IsBit}
+use Rattle.hys_lin.specs.Bits.{IsBit}
+use Rattle.hys_meaning.specs.Values.{Assignment, literal}
 use Rattle.hys_meaning.specs.Steps.{Legal, GuardCase, GapOf}
 use Rattle.hys_sys.specs.declared.system.ColumnRole.TheVariants.{D}
 use Rattle.hys_sys.specs.declared.system.Column.{Column}
@@ -181,7 +182,7 @@ arranged = record {
   reals_are = refl;
   d = All-cons (λ (c : Column). c.role ≡ D) (bool_column (codes "d") D) [] refl (All-nil (λ (c : Column). c.role ≡ D));
   z = λ k c l. absurd (omega arith);
-  fresh_are = λ k c l. absurd (omega arith);
+  fresh_are = refl;
 }
 
 pub guarded_exact : IsExactFor tolerance guarded guarded_system

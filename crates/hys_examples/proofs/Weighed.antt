@@ -5,7 +5,8 @@ use Rattle.hys_number.specs.Ops.{◌+ₙ◌, ◌*ₙ◌, ◌≤ₙ◌, whole}
 use Rattle.hys_number.proofs.Field.{add_zero, add_assoc, mul_comm, mul_one}
 use Rattle.hys_lin.specs.Sums.{at, value, Holds, Within}
 use Rattle.hys_lin.specs.declared.form.Affine.{Affine}
-use Rattle.hys_meaning.specs.Values.{Assignment, literal, IsBit}
+use Rattle.hys_lin.specs.Bits.{IsBit}
+use Rattle.hys_meaning.specs.Values.{Assignment, literal}
 use Rattle.hys_meaning.specs.Steps.{Legal}
 use Rattle.hys_sys.specs.declared.system.ColumnRole.TheVariants.{State}
 use Rattle.hys_sys.specs.declared.system.Kind2.TheVariants as kind
@@ -135,7 +136,7 @@ arranged = record {
   reals_are = refl;
   d = λ k c l. absurd (omega arith);
   z = λ k c l. absurd (omega arith);
-  fresh_are = λ k c l. absurd (omega arith);
+  fresh_are = refl;
 }
 
 pub casting_exact : (tolerance : Number) → IsExactFor tolerance casting casting_system

@@ -15,7 +15,7 @@ use Rattle.hys_ast.specs.declared.source.Section.TheVariants as section
 use Rattle.hys_ast.specs.Tree.{Tree, Shape, Item, Source}
 use Rattle.hys_ast.specs.Tree as tree
 use Rattle.hys_ast.specs.Nodes.{shape_expressions, items_expressions}
-use Rattle.hys_meaning.specs.Values.{bit, is_one}
+use Rattle.hys_lin.specs.Bits.{bit, is_one}
 use Rattle.hys_meaning.specs.Names.{Name, names, look, texts, is_state, is_input, is_parameter, is_auxiliary}
 use Rattle.hys_meaning.specs.Forms.{Form, form, guard_form}
 use Rattle.hys_meaning.specs.Typed.{is_bool, is_real, is_connective}

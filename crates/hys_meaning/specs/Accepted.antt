@@ -13,14 +13,18 @@ pub record WithinLimits (s : Source) : Type 0 where
   pub expression : AllByRecursion (λ e. nodes e ≤ 1000) (expressions s)
   pub nodes : total (expressions s) ≤ 4000
 
--- The tree is that of an accepted source: with each guard named it is typed and bounded, each name is
--- declared once, each parameter has a value, each AUX, STATE and OUTPUT name is defined exactly once, and no
--- list is circular. The limits are those of the source as written, in which unnamed guards don't count.
+-- The rules on a source in which each guard has a name: it is typed and bounded, each name is declared once,
+-- each parameter has a value, each AUX, STATE and OUTPUT name is defined exactly once, and no list is circular.
+pub record KeepsRules (s : Source) : Type 0 where
+  pub declared : DeclaredOnce s
+  pub values : HaveValues s
+  pub typed : Typed s
+  pub bounded : Bounded s
+  pub defined : DefinedOnce s
+  pub orders : (ns : List (List ℕ)) → ¬ (Circular s ns)
+
+-- The tree is that of an accepted source: it keeps the rules once each guard has a name. The limits are those of
+-- the source as written, in which unnamed guards don't count.
 pub record Accepted (s : Source) : Type 0 where
-  pub declared : DeclaredOnce (unfolded s)
-  pub values : HaveValues (unfolded s)
-  pub typed : Typed (unfolded s)
-  pub bounded : Bounded (unfolded s)
-  pub defined : DefinedOnce (unfolded s)
-  pub orders : (ns : List (List ℕ)) → ¬ (Circular (unfolded s) ns)
+  pub rules : KeepsRules (unfolded s)
   pub limits : WithinLimits s

@@ -53,7 +53,7 @@ left_typed w ds section.OutputItem n h k = absurd (grind arith)
 left_typed w ds section.Must n h k = absurd (grind arith)
 
 typed_left : (w : Assignment) (ds : List Decl) (s : Section) (n : Option (List ℕ)) → is_continuous s ≡ true → LeftTyped s (map (name_of w) ds) n → has_state ds n ≡ true
-typed_left w ds section.Continuous None h k = absurd k
+typed_left w ds section.Continuous None h k = absurd (grind arith)
 typed_left w ds section.Continuous (Some n) h k = same_state (λ m. whole 0) w ds n ∙ k
 typed_left w ds section.State n h k = absurd (grind arith)
 typed_left w ds section.Input n h k = absurd (grind arith)
