@@ -20,3 +20,4 @@ pub mod ViableParts
 pub mod ViableSource
 pub mod OneFault
 pub mod Depths
+pub mod Worked

@@ -6,6 +6,7 @@ mod declaration;
 mod deep;
 mod descent;
 mod draft;
+pub mod examples;
 mod item;
 pub mod laws;
 mod parser;
