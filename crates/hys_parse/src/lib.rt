@@ -12,6 +12,7 @@ pub mod laws;
 mod parser;
 #[cfg(test)]
 mod print_tests;
+mod repeat;
 mod section;
 mod stop;
 #[cfg(test)]
