@@ -5,6 +5,7 @@ ghost use Rattle.hys_ast.specs.Seen.{tree_of, shape_of, item_of};
 ghost use Rattle.hys_parse.specs.Reading.{Gives};
 ghost use Rattle.hys_parse.specs.Sections as reading;
 
+use crate::repeat::all_turns;
 use crate::ahead::{after, expect, split};
 use crate::descent::expression;
 use crate::stop::Stop;
@@ -195,18 +196,5 @@ pub fn items(
     ensures gives { Gives (λ p. (map item_of p.0.items, p.1.now)) result (reading.all_turns (reading.item_turn room section) (map item_of items.items) tokens.now) }
     ensures shorter { IfOk result (λ p. length p.1.now < length tokens.now) }
 {
-    let mut held = items;
-    let mut rest = tokens;
-    loop {
-        match item_turn(alloc, room, section, held, rest) {
-            Err(stop) => return Err(stop),
-            Ok((found, more, next)) => {
-                if !more {
-                    return Ok((found, next));
-                }
-                held = found;
-                rest = next;
-            }
-        }
-    }
+    all_turns!(item_turn(alloc, room, section), items, tokens)
 }
