@@ -77,16 +77,18 @@ small = ap (λ d. d ∷ []) literal-small
 
 pub casting_accepted : Accepted casting
 casting_accepted = record {
-  declared = refl;
-  values = (λ t. t, (λ t. t, (λ t. t, tt)));
-  typed = record {
-    values = (tt, (tt, (tt, tt)));
-    boxes = ((tt, tt), ((tt, tt), ((tt, tt), tt)));
-    items = ((refl, ((refl, (tt, refl, inl (λ n. refl)), tt), (tt, refl, inl (λ n. refl)), tt)), ((tt, inr (refl, ((tt, refl, inl (λ n. refl)), (tt, refl, inl (λ n. refl)), tt), tt)), tt));
+  rules = record {
+    declared = refl;
+    values = (λ t. t, (λ t. t, (λ t. t, tt)));
+    typed = record {
+      values = (tt, (tt, (tt, tt)));
+      boxes = ((tt, tt), ((tt, tt), ((tt, tt), tt)));
+      items = ((refl, ((refl, (tt, refl, inl (λ n. refl)), tt), (tt, refl, inl (λ n. refl)), tt)), ((refl, inr (refl, ((tt, refl, inl (λ n. refl)), (tt, refl, inl (λ n. refl)), tt), tt)), tt));
+    };
+    bounded = (λ t. zero_ten, (λ t. never t, (λ t. never t, tt)));
+    defined = (λ t. refl, (λ t. never t, (λ t. never t, tt)));
+    orders = not_circular casting (λ n m h k. elim k [ inl p ↦ p.1 | inr q ↦ elim q [ inl p ↦ p.1 | inr r ↦ r ] ]);
   };
-  bounded = (λ t. zero_ten, (λ t. never t, (λ t. never t, tt)));
-  defined = (λ t. refl, (λ t. never t, (λ t. never t, tt)));
-  orders = not_circular casting (λ n m h k. elim k [ inl p ↦ p.1 | inr q ↦ elim q [ inl p ↦ p.1 | inr r ↦ r ] ]);
   limits = record { names = omega arith; expression = (omega arith, (omega arith, (omega arith, (omega arith, tt)))); nodes = omega arith };
 }
 
@@ -96,16 +98,18 @@ none_left b = rw (add_neg b) (add_zero (whole 0))
 
 pub cancelled_accepted : Accepted cancelled
 cancelled_accepted = record {
-  declared = refl;
-  values = (λ t. t, (λ t. t, tt));
-  typed = record { values = (tt, (tt, tt)); boxes = ((tt, tt), ((tt, tt), tt)); items = ((refl, ((refl, refl, tt), refl, tt)), tt) };
-  bounded = (λ t. zero_one, (λ t. never t, tt));
-  defined = (λ t. never t, (λ t. refl, tt));
-  orders = not_circular cancelled (λ n m h k. elim k [
-    | inl p ↦ p.1 (ap (λ b. cond (bytes_eq (codes "z") m) (whole 1) (whole 0) -ₙ cond (bytes_eq (codes "z") m) (whole 1) (whole 0) +ₙ cond b (whole 1) (whole 0)) (not_that _ refl (bytes_eq (codes "u") m) _ h)
-        ∙ none_left (cond (bytes_eq (codes "z") m) (whole 1) (whole 0)))
-    | inr q ↦ q
-  ]);
+  rules = record {
+    declared = refl;
+    values = (λ t. t, (λ t. t, tt));
+    typed = record { values = (tt, (tt, tt)); boxes = ((tt, tt), ((tt, tt), tt)); items = ((refl, ((refl, refl, tt), refl, tt)), tt) };
+    bounded = (λ t. zero_one, (λ t. never t, tt));
+    defined = (λ t. never t, (λ t. refl, tt));
+    orders = not_circular cancelled (λ n m h k. elim k [
+      | inl p ↦ p.1 (ap (λ b. cond (bytes_eq (codes "z") m) (whole 1) (whole 0) -ₙ cond (bytes_eq (codes "z") m) (whole 1) (whole 0) +ₙ cond b (whole 1) (whole 0)) (not_that _ refl (bytes_eq (codes "u") m) _ h)
+          ∙ none_left (cond (bytes_eq (codes "z") m) (whole 1) (whole 0)))
+      | inr q ↦ q
+    ]);
+  };
   limits = record { names = omega arith; expression = (omega arith, (omega arith, (omega arith, tt))); nodes = omega arith };
 }
 
@@ -117,11 +121,13 @@ early t = never t.values.0
 
 pub later : Accepted bounded_later
 later = record {
-  declared = refl;
-  values = (λ t. t, (λ t. refl, tt));
-  typed = record { values = (tt, (tt, tt)); boxes = ((tt, refl), ((tt, tt), tt)); items = ((refl, refl), tt) };
-  bounded = (λ t. zero_one, (λ t. never t, tt));
-  defined = (λ t. refl, (λ t. never t, tt));
-  orders = not_circular bounded_later (λ n m h k. elim k [ inl p ↦ p.1 | inr q ↦ q ]);
+  rules = record {
+    declared = refl;
+    values = (λ t. t, (λ t. refl, tt));
+    typed = record { values = (tt, (tt, tt)); boxes = ((tt, refl), ((tt, tt), tt)); items = ((refl, refl), tt) };
+    bounded = (λ t. zero_one, (λ t. never t, tt));
+    defined = (λ t. refl, (λ t. never t, tt));
+    orders = not_circular bounded_later (λ n m h k. elim k [ inl p ↦ p.1 | inr q ↦ q ]);
+  };
   limits = record { names = omega arith; expression = (omega arith, (omega arith, (omega arith, (omega arith, tt)))); nodes = omega arith };
 }

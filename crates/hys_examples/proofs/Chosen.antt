@@ -68,24 +68,26 @@ either_input m h false false f g e = never e
 
 pub choosing_accepted : Accepted choosing
 choosing_accepted = record {
-  declared = refl;
-  values = (λ t. t, (λ t. t, (λ t. t, (λ t. t, tt))));
-  typed = record {
-    values = (tt, (tt, (tt, (tt, tt))));
-    boxes = ((tt, tt), ((tt, tt), ((tt, tt), ((tt, tt), tt))));
-    items = ((refl, ((refl, refl, (refl, refl)), (tt, refl, inl (λ n. refl)), tt)), ((refl, refl), tt));
-  };
-  bounded = (λ t. zero_ten, (λ t. never t, (λ t. never t, (λ t. never t, tt))));
-  defined = (λ t. refl, (λ t. never t, (λ t. never t, (λ t. refl, tt))));
-  orders = not_circular choosing (λ n m h k. elim k [
-    | inl p ↦ elim p.1 [
-      | inl q ↦ either_input m h (bytes_eq m (codes "a")) (bytes_eq m (codes "b")) (λ e. (bytes_eq-Decides m (codes "a")).0 e) (λ e. (bytes_eq-Decides m (codes "b")).0 e) q
-      | inr q ↦ elim q [
-        | inl f ↦ f (ap (λ b. whole 0 *ₙ whole 0 +ₙ literal (codes "2") *ₙ cond b (whole 1) (whole 0)) (not_that _ refl (bytes_eq (codes "x") m) _ h) ∙ nothing_plus_twice (literal (codes "2")))
-        | inr r ↦ r
+  rules = record {
+    declared = refl;
+    values = (λ t. t, (λ t. t, (λ t. t, (λ t. t, tt))));
+    typed = record {
+      values = (tt, (tt, (tt, (tt, tt))));
+      boxes = ((tt, tt), ((tt, tt), ((tt, tt), ((tt, tt), tt))));
+      items = ((refl, ((refl, refl, (refl, refl)), (tt, refl, inl (λ n. refl)), tt)), ((refl, refl), tt));
+    };
+    bounded = (λ t. zero_ten, (λ t. never t, (λ t. never t, (λ t. never t, tt))));
+    defined = (λ t. refl, (λ t. never t, (λ t. never t, (λ t. refl, tt))));
+    orders = not_circular choosing (λ n m h k. elim k [
+      | inl p ↦ elim p.1 [
+        | inl q ↦ either_input m h (bytes_eq m (codes "a")) (bytes_eq m (codes "b")) (λ e. (bytes_eq-Decides m (codes "a")).0 e) (λ e. (bytes_eq-Decides m (codes "b")).0 e) q
+        | inr q ↦ elim q [
+          | inl f ↦ f (ap (λ b. whole 0 *ₙ whole 0 +ₙ literal (codes "2") *ₙ cond b (whole 1) (whole 0)) (not_that _ refl (bytes_eq (codes "x") m) _ h) ∙ nothing_plus_twice (literal (codes "2")))
+          | inr r ↦ r
+        ]
       ]
-    ]
-    | inr q ↦ elim q [ inl p ↦ p.1 | inr r ↦ r ]
-  ]);
+      | inr q ↦ elim q [ inl p ↦ p.1 | inr r ↦ r ]
+    ]);
+  };
   limits = record { names = omega arith; expression = (omega arith, (omega arith, (omega arith, (omega arith, (omega arith, tt))))); nodes = omega arith };
 }

@@ -137,46 +137,48 @@ by_state m h = not_that _ refl (bytes_eq (codes "T") m) _ h
 
 pub thermostat_accepted : Accepted thermostat
 thermostat_accepted = record {
-  declared = refl;
-  values = (λ t. t, (λ t. t, (λ t. t, (λ t. t, (λ t. refl, (λ t. refl, (λ t. t, (λ t. t, (λ t. t, tt)))))))));
-  typed = record {
-    values = (tt, (tt, (tt, (tt, (tt, ((tt, refl, tt), (tt, (tt, (tt, tt)))))))));
-    boxes = (((refl, tt), tt), ((tt, tt), (((refl, tt), tt), ((tt, tt), ((tt, tt), ((tt, tt), ((tt, tt), ((tt, tt), ((tt, tt), tt)))))))));
-    items = (
-      (refl, (refl, refl, tt)),
-      (
-        (refl, (refl, refl, tt)),
+  rules = record {
+    declared = refl;
+    values = (λ t. t, (λ t. t, (λ t. t, (λ t. t, (λ t. refl, (λ t. refl, (λ t. t, (λ t. t, (λ t. t, tt)))))))));
+    typed = record {
+      values = (tt, (tt, (tt, (tt, (tt, ((tt, refl, tt), (tt, (tt, (tt, tt)))))))));
+      boxes = (((refl, tt), tt), ((tt, tt), (((refl, tt), tt), ((tt, tt), ((tt, tt), ((tt, tt), ((tt, tt), ((tt, tt), ((tt, tt), tt)))))))));
+      items = (
+        (refl, ((refl, refl, tt), tt)),
         (
-          (refl, (refl, tt, tt)),
+          (refl, ((refl, refl, tt), tt)),
           (
-            (refl, (refl, refl, (refl, refl, (refl, refl)))),
+            (refl, (refl, tt, tt)),
             (
-              (refl, ((refl, refl, inl (λ n. refl)), (refl, (refl, refl, tt), inl (λ n. refl)), tt)),
+              (refl, (refl, refl, (refl, refl, (refl, refl)))),
               (
-                (refl, refl),
-                ((tt, inr (refl, refl, tt)), tt),
+                (refl, ((refl, refl, inl (λ n. refl)), (refl, (refl, refl, tt), inl (λ n. refl)), tt)),
+                (
+                  (refl, refl),
+                  ((refl, inr (refl, refl, tt)), tt),
+                ),
               ),
             ),
           ),
         ),
-      ),
-    );
-  };
-  bounded = (λ t. box_of_T, (λ t. never t, (λ t. box_outside, (λ t. never t, (λ t. never t, (λ t. never t, (λ t. never t, (λ t. never t, (λ t. never t, tt)))))))));
-  defined = (λ t. refl, (λ t. refl, (λ t. never t, (λ t. refl, (λ t. never t, (λ t. never t, (λ t. refl, (λ t. refl, (λ t. refl, tt)))))))));
-  orders = not_circular thermostat (λ n m h k. elim k [
-    | inl p ↦ p.1 (ap (λ b. whole 0 -ₙ cond b (whole 1) (whole 0)) (by_state m h) ∙ add_neg (whole 0))
-    | inr q ↦ elim q [
-      | inl p ↦ p.1 (ap (λ b. cond b (whole 1) (whole 0) -ₙ whole 0) (by_state m h) ∙ add_neg (whole 0))
-      | inr r ↦ elim r [
-        | inl p ↦ elim p.1 [
-          | inl c ↦ never (subst (IsAuxiliary (names thermostat)) ((bytes_eq-Decides m (codes "on")).0 c) h)
-          | inr f ↦ elim f [ inl g ↦ g refl | inr g ↦ g refl ]
+      );
+    };
+    bounded = (λ t. box_of_T, (λ t. never t, (λ t. box_outside, (λ t. never t, (λ t. never t, (λ t. never t, (λ t. never t, (λ t. never t, (λ t. never t, tt)))))))));
+    defined = (λ t. refl, (λ t. refl, (λ t. never t, (λ t. refl, (λ t. never t, (λ t. never t, (λ t. refl, (λ t. refl, (λ t. refl, tt)))))))));
+    orders = not_circular thermostat (λ n m h k. elim k [
+      | inl p ↦ p.1 (ap (λ b. whole 0 -ₙ cond b (whole 1) (whole 0)) (by_state m h) ∙ add_neg (whole 0))
+      | inr q ↦ elim q [
+        | inl p ↦ p.1 (ap (λ b. cond b (whole 1) (whole 0) -ₙ whole 0) (by_state m h) ∙ add_neg (whole 0))
+        | inr r ↦ elim r [
+          | inl p ↦ elim p.1 [
+            | inl c ↦ never (subst (IsAuxiliary (names thermostat)) ((bytes_eq-Decides m (codes "on")).0 c) h)
+            | inr f ↦ elim f [ inl g ↦ g refl | inr g ↦ g refl ]
+          ]
+          | inr s ↦ elim s [ inl p ↦ p.1 | inr s ↦ elim s [ inl p ↦ p.1 | inr s ↦ elim s [ inl p ↦ p.1 | inr s ↦ elim s [ inl p ↦ p.1 | inr s ↦ s ] ] ] ]
         ]
-        | inr s ↦ elim s [ inl p ↦ p.1 | inr s ↦ elim s [ inl p ↦ p.1 | inr s ↦ elim s [ inl p ↦ p.1 | inr s ↦ elim s [ inl p ↦ p.1 | inr s ↦ s ] ] ] ]
       ]
-    ]
-  ]);
+    ]);
+  };
   limits = record {
     names = omega arith;
     expression = (omega arith, (omega arith, (omega arith, (omega arith, (omega arith, (omega arith, (omega arith, (omega arith, (omega arith, (omega arith, (omega arith, (omega arith, (omega arith, (omega arith, (omega arith, tt)))))))))))))));

@@ -35,13 +35,13 @@ pub output : ¬ (Typed (with_items (settled ∷ item section.OutputItem (codes "
 output t = never t.items.1.0.1
 
 pub equation : ¬ (Typed (with_items (item section.Ad (codes "d") (both binary.Equal (number (codes "1")) (number (codes "1"))) ∷ shown ∷ [])))
-equation t = never t.items.0.1.0
+equation t = never t.items.0.1.0.0
 
 pub within : ¬ (Typed (with_items (item section.Logic (codes "d") (negated (both binary.Most (number (codes "1")) (number (codes "1")))) ∷ shown ∷ [])))
 within t = never t.items.0.1.1.0
 
 pub top : Typed (with_items (settled ∷ shown ∷ must (both binary.Equal (number (codes "1")) (number (codes "1"))) ∷ []))
-top = record { values = (tt, (tt, tt)); boxes = ((tt, tt), ((tt, tt), tt)); items = ((refl, tt), ((refl, tt), ((tt, inr (refl, tt, tt)), tt))) }
+top = record { values = (tt, (tt, tt)); boxes = ((tt, tt), ((tt, tt), tt)); items = ((refl, tt), ((refl, tt), ((refl, inr (refl, tt, tt)), tt))) }
 
 pub wrong_kind : ¬ (Typed (with_items (settled ∷ item section.OutputItem (codes "y") (truth true) ∷ [])))
 wrong_kind t = t.items.1.0.1

@@ -22,7 +22,8 @@ use Rattle.hys_ast.specs.Tree.{Tree}
 use Rattle.hys_ast.specs.Tree as tree
 use Rattle.hys_meaning.specs.Names.{Name, look, is_parameter}
 use Rattle.hys_meaning.specs.Forms.{Form, form, guard_form, looked_up, parameter_or, product, IsConstant}
-use Rattle.hys_meaning.specs.Typed.{IsReal, IsComparison, is_inequality}
+use Rattle.hys_meaning.specs.Unfolded.{is_inequality}
+use Rattle.hys_meaning.specs.Typed.{IsReal, IsComparison}
 use Rattle.hys_meaning.specs.Folding.{Computed, FormFits, result, first_unfit, numbers_of, is_zero, is_constant, multiplied, all_at, each, over}
 use Rattle.hys_examples.specs.Ranges.{ranging, interval_of, over_names, boxes_of}
 use Rattle.hys_examples.proofs.Numbers.{never}

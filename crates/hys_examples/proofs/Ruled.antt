@@ -45,12 +45,14 @@ round_typed = (
 -- ---- boxes
 pub single : Accepted (boxed (codes "3"))
 single = record {
-  declared = refl;
-  values = (λ t. t, tt);
-  typed = record { values = (tt, tt); boxes = ((tt, tt), tt); items = ((refl, refl), tt) };
-  bounded = (λ t. le_refl' (literal (codes "3")), tt);
-  defined = (λ t. refl, tt);
-  orders = not_circular (boxed (codes "3")) (λ n m h k. elim k [ inl p ↦ p.1 | inr q ↦ q ]);
+  rules = record {
+    declared = refl;
+    values = (λ t. t, tt);
+    typed = record { values = (tt, tt); boxes = ((tt, tt), tt); items = ((refl, refl), tt) };
+    bounded = (λ t. le_refl' (literal (codes "3")), tt);
+    defined = (λ t. refl, tt);
+    orders = not_circular (boxed (codes "3")) (λ n m h k. elim k [ inl p ↦ p.1 | inr q ↦ q ]);
+  };
   limits = record { names = omega arith; expression = (omega arith, (omega arith, (omega arith, tt))); nodes = omega arith };
 }
 
@@ -69,46 +71,52 @@ kind_refused t = never t.items.0.1.0
 
 pub doubled_accepted : Accepted doubled
 doubled_accepted = record {
-  declared = refl;
-  values = (λ t. t, (λ t. t, (λ t. t, tt)));
-  typed = record { values = (tt, (tt, (tt, tt))); boxes = ((tt, tt), ((tt, tt), ((tt, tt), tt))); items = ((refl, (refl, tt, inr (λ n. refl))), tt) };
-  bounded = (λ t. zero_ten, (λ t. zero_one, (λ t. never t, tt)));
-  defined = (λ t. refl, (λ t. never t, (λ t. never t, tt)));
-  orders = not_circular doubled (λ n m h k. elim k [ inl p ↦ p.1 | inr q ↦ q ]);
+  rules = record {
+    declared = refl;
+    values = (λ t. t, (λ t. t, (λ t. t, tt)));
+    typed = record { values = (tt, (tt, (tt, tt))); boxes = ((tt, tt), ((tt, tt), ((tt, tt), tt))); items = ((refl, (refl, tt, inr (λ n. refl))), tt) };
+    bounded = (λ t. zero_ten, (λ t. zero_one, (λ t. never t, tt)));
+    defined = (λ t. refl, (λ t. never t, (λ t. never t, tt)));
+    orders = not_circular doubled (λ n m h k. elim k [ inl p ↦ p.1 | inr q ↦ q ]);
+  };
   limits = record { names = omega arith; expression = (omega arith, (omega arith, (omega arith, (omega arith, (omega arith, tt))))); nodes = omega arith };
 }
 
 -- ---- guards
 pub guarded_accepted : Accepted guarded
 guarded_accepted = record {
-  declared = refl;
-  values = (λ t. t, (λ t. t, tt));
-  typed = record { values = (tt, (tt, tt)); boxes = ((tt, tt), ((tt, tt), tt)); items = ((refl, (refl, refl, tt)), ((refl, refl), tt)) };
-  bounded = (λ t. zero_ten, (λ t. never t, tt));
-  defined = (λ t. refl, (λ t. refl, tt));
-  orders = not_circular guarded (λ n m h k. elim k [
-    | inl p ↦ p.1 (ap (λ b. whole 0 -ₙ cond b (whole 1) (whole 0)) (not_that _ refl (bytes_eq (codes "x") m) _ h) ∙ add_neg (whole 0))
-    | inr q ↦ elim q [ inl p ↦ p.1 | inr r ↦ r ]
-  ]);
+  rules = record {
+    declared = refl;
+    values = (λ t. t, (λ t. t, tt));
+    typed = record { values = (tt, (tt, tt)); boxes = ((tt, tt), ((tt, tt), tt)); items = ((refl, ((refl, refl, tt), tt)), ((refl, refl), tt)) };
+    bounded = (λ t. zero_ten, (λ t. never t, tt));
+    defined = (λ t. refl, (λ t. refl, tt));
+    orders = not_circular guarded (λ n m h k. elim k [
+      | inl p ↦ p.1 (ap (λ b. whole 0 -ₙ cond b (whole 1) (whole 0)) (not_that _ refl (bytes_eq (codes "x") m) _ h) ∙ add_neg (whole 0))
+      | inr q ↦ elim q [ inl p ↦ p.1 | inr r ↦ r ]
+    ]);
+  };
   limits = record { names = omega arith; expression = (omega arith, (omega arith, (omega arith, (omega arith, tt)))); nodes = omega arith };
 }
 
 pub always_accepted : Accepted always
 always_accepted = record {
-  declared = refl;
-  values = (λ t. t, (λ t. t, tt));
-  typed = record { values = (tt, (tt, tt)); boxes = ((tt, tt), ((tt, tt), tt)); items = ((refl, (refl, refl, tt)), ((refl, refl), tt)) };
-  bounded = (λ t. zero_ten, (λ t. never t, tt));
-  defined = (λ t. refl, (λ t. refl, tt));
-  orders = not_circular always (λ n m h k. elim k [
-    | inl p ↦ p.1 (ap (λ b. cond b (whole 1) (whole 0) -ₙ whole 0) (not_that _ refl (bytes_eq (codes "x") m) _ h) ∙ add_neg (whole 0))
-    | inr q ↦ elim q [ inl p ↦ p.1 | inr r ↦ r ]
-  ]);
+  rules = record {
+    declared = refl;
+    values = (λ t. t, (λ t. t, tt));
+    typed = record { values = (tt, (tt, tt)); boxes = ((tt, tt), ((tt, tt), tt)); items = ((refl, ((refl, refl, tt), tt)), ((refl, refl), tt)) };
+    bounded = (λ t. zero_ten, (λ t. never t, tt));
+    defined = (λ t. refl, (λ t. refl, tt));
+    orders = not_circular always (λ n m h k. elim k [
+      | inl p ↦ p.1 (ap (λ b. cond b (whole 1) (whole 0) -ₙ whole 0) (not_that _ refl (bytes_eq (codes "x") m) _ h) ∙ add_neg (whole 0))
+      | inr q ↦ elim q [ inl p ↦ p.1 | inr r ↦ r ]
+    ]);
+  };
   limits = record { names = omega arith; expression = (omega arith, (omega arith, (omega arith, (omega arith, tt)))); nodes = omega arith };
 }
 
 pub round_refused : ¬ (Accepted led_round)
-round_refused a = a.orders (codes "d1" ∷ codes "d2" ∷ []) round
+round_refused a = a.rules.orders (codes "d1" ∷ codes "d2" ∷ []) round
 
 pub itself_refused : ¬ (Accepted led_to_itself)
-itself_refused a = a.orders (codes "d" ∷ []) itself
+itself_refused a = a.rules.orders (codes "d" ∷ []) itself

@@ -104,22 +104,26 @@ run = ((at_x (whole 4) (whole 1), []) ∷ (at_x (whole 5) (whole 1), []) ∷ [],
 
 pub summed_accepted : Accepted summed
 summed_accepted = record {
-  declared = refl;
-  values = (λ t. t, (λ t. t, tt));
-  typed = record { values = (tt, (tt, tt)); boxes = ((tt, tt), (((refl, tt), tt), tt)); items = ((refl, (refl, refl, tt)), tt) };
-  bounded = (λ t. zero_ten, (λ t. ends, tt));
-  defined = (λ t. refl, (λ t. never t, tt));
-  orders = not_circular summed (λ n m h k. elim k [ inl p ↦ p.1 | inr q ↦ q ]);
+  rules = record {
+    declared = refl;
+    values = (λ t. t, (λ t. t, tt));
+    typed = record { values = (tt, (tt, tt)); boxes = ((tt, tt), (((refl, tt), tt), tt)); items = ((refl, (refl, refl, tt)), tt) };
+    bounded = (λ t. zero_ten, (λ t. ends, tt));
+    defined = (λ t. refl, (λ t. never t, tt));
+    orders = not_circular summed (λ n m h k. elim k [ inl p ↦ p.1 | inr q ↦ q ]);
+  };
   limits = record { names = omega arith; expression = (omega arith, (omega arith, (omega arith, (omega arith, (omega arith, tt))))); nodes = omega arith };
 }
 
 pub demanding_accepted : Accepted demanding
 demanding_accepted = record {
-  declared = refl;
-  values = (λ t. t, (λ t. t, tt));
-  typed = record { values = (tt, (tt, tt)); boxes = ((tt, tt), (((refl, tt), tt), tt)); items = ((refl, (refl, refl, tt)), ((tt, inr (refl, refl, tt)), tt)) };
-  bounded = (λ t. zero_ten, (λ t. ends, tt));
-  defined = (λ t. refl, (λ t. never t, tt));
-  orders = not_circular demanding (λ n m h k. elim k [ inl p ↦ p.1 | inr q ↦ elim q [ inl p ↦ p.1 | inr r ↦ r ] ]);
+  rules = record {
+    declared = refl;
+    values = (λ t. t, (λ t. t, tt));
+    typed = record { values = (tt, (tt, tt)); boxes = ((tt, tt), (((refl, tt), tt), tt)); items = ((refl, (refl, refl, tt)), ((refl, inr (refl, refl, tt)), tt)) };
+    bounded = (λ t. zero_ten, (λ t. ends, tt));
+    defined = (λ t. refl, (λ t. never t, tt));
+    orders = not_circular demanding (λ n m h k. elim k [ inl p ↦ p.1 | inr q ↦ elim q [ inl p ↦ p.1 | inr r ↦ r ] ]);
+  };
   limits = record { names = omega arith; expression = (omega arith, (omega arith, (omega arith, (omega arith, (omega arith, (omega arith, tt)))))); nodes = omega arith };
 }
