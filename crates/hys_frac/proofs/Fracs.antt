@@ -1,4 +1,4 @@
-use Rattle.std.proofs.Common.{Ordering, int_lt, zero, suc, mul-pos, ◌≡◌, ℕ, ◌<◌, ◌≤◌, ◌^◌, ℤ, pos, negsuc, ◌-ℤ◌, neg_ℤ, ◌<ℤ◌, unsigned_abs, refl, sym, ap, ◌∙◌, arith, ap₂, subst, subst₂, Bool, true, false, T, ◌&&◌, IsTrue, IsSome, IfSome, int_le, ◌↔◌, ◌+ℤ◌, ◌*ℤ◌, Option, Some, None, tests, lt→ltb, FitsSigned, w64, to_z, of_z, int_div, to_z-of_z, ◌/◌}
+use Rattle.std.proofs.Common.{Ordering, int_lt, zero, suc, mul-pos, ◌≡◌, ℕ, ◌<◌, ◌≤◌, ◌^◌, ℤ, pos, negsuc, ◌-ℤ◌, neg_ℤ, ◌<ℤ◌, unsigned_abs, refl, sym, ap, ◌∙◌, arith, ap₂, subst, subst₂, Bool, true, false, T, IsTrue, IsSome, IfSome, int_le, ◌↔◌, ◌+ℤ◌, ◌*ℤ◌, Option, Some, None, tests, lt→ltb, FitsSigned, w64, to_z, of_z, int_div, to_z-of_z, ◌/◌}
 use Rattle.std.proofs.lemmas.Int.{quot_fits}
 use Rattle.std.proofs.lemmas.Nat.Gcd.{le_of_dvd}
 use mir.Syntax.{w128}
@@ -7,6 +7,8 @@ use Rattle.hys_number.specs.Gcd.{gcd, gcd_pos, gcd_is, gcd-one}
 use Rattle.hys_number.specs.Number.{Number, make, make_reduced, make_is_divided, make-parts}
 use Rattle.hys_frac.specs.Frac.{IsReduced, parts_back}
 use Rattle.hys_number.specs.Ops.{neg, whole, int, ◌<ₙ◌, ◌+ₙ◌, ◌*ₙ◌, ◌/ₙ◌, fits}
+use Rattle.hys_number.proofs.Bools.{both_true}
+use Rattle.hys_number.proofs.Signs.{abs_neg}
 use Rattle.hys_number.proofs.Inverse.{made_positive, made_negative, made_quotient, made_div, add-same_den, zero_num}
 use Rattle.hys_number.proofs.Inverse.{made as made_number}
 use Rattle.hys_frac.specs.Compare.{number_cmp, number_ranks}
@@ -106,12 +108,9 @@ pub fits_along : (a b : Number) (o : Option Number) → a ≡ b → (IsSome o �
 fits_along a b o e h = subst (λ (x : Number). IsSome o ↔ IsTrue (fits x)) e h
 
 -- ---- the outcomes
-and_true : (x y : Bool) → x ≡ true → y ≡ true → x && y ≡ true
-and_true x y e f = rw (e, f) refl
-
 pub fits_yes : (a : Number) → unsigned_abs a.num < 2 ^ 63 → a.den < 2 ^ 63 → fits a ≡ true
 unfolding fits
-fits_yes a h k = and_true _ _ (is_true _ (lt→ltb _ _ h)) (is_true _ (lt→ltb _ _ k))
+fits_yes a h k = both_true _ _ (is_true _ (lt→ltb _ _ h)) (is_true _ (lt→ltb _ _ k))
 
 pub fits_no_num : (a : Number) → 2 ^ 63 ≤ unsigned_abs a.num → fits a ≡ false
 unfolding fits
@@ -177,18 +176,15 @@ pub positive_pos : (m : Number) → pos 0 <ℤ pos m.den
 positive_pos m = let p : 0 < m.den = m.positive in omega (arith, ints)
 
 -- ---- the outcomes of `quotient`
+pub negated : (z : ℤ) → unsigned_abs z < 2 ^ 127 → FitsSigned w128 z → to_z w128 (of_z w128 (pos 0 -ℤ to_z w128 (of_z w128 z))) ≡ neg_ℤ z
+negated z h f = let e : to_z w128 (of_z w128 z) ≡ z = to_z-of_z f in rw e (omega (arith, ints))
+
 pub quotient_negative : (num den : ℤ) → unsigned_abs num < 2 ^ 127 → unsigned_abs den < 2 ^ 127 → int_lt (to_z w128 (of_z w128 den)) (pos 0) ≡ true → FitsSigned w128 num → FitsSigned w128 den →
     make (to_z w128 (of_z w128 (pos 0 -ℤ to_z w128 (of_z w128 num)))) (unsigned_abs (to_z w128 (of_z w128 (pos 0 -ℤ to_z w128 (of_z w128 den))))) ≡ int num /ₙ int den
 quotient_negative num den a b t f g =
     let n : int_lt den (pos 0) ≡ true = subst (λ (x : ℤ). int_lt x (pos 0) ≡ true) (to_z-of_z g) t in
     let l : den <ℤ pos 0 = omega (arith, ints) in
     ap₂ make (negated num a f) (ap unsigned_abs (negated den b g) ∙ abs_neg den) ∙ made_negative num den l ∙ made_quotient num den
-  where
-    negated : (z : ℤ) → unsigned_abs z < 2 ^ 127 → FitsSigned w128 z → to_z w128 (of_z w128 (pos 0 -ℤ to_z w128 (of_z w128 z))) ≡ neg_ℤ z
-    negated z h f = let e : to_z w128 (of_z w128 z) ≡ z = to_z-of_z f in rw e (omega (arith, ints))
-
-    abs_neg : (z : ℤ) → unsigned_abs (neg_ℤ z) ≡ unsigned_abs z
-    abs_neg z = omega (arith, ints)
 
 pub quotient_positive : (num den : ℤ) → (of_z w128 den ≡ 0 → ⊥) → int_lt (to_z w128 (of_z w128 den)) (pos 0) ≡ false → FitsSigned w128 num → FitsSigned w128 den →
     make (to_z w128 (of_z w128 num)) (unsigned_abs (to_z w128 (of_z w128 den))) ≡ int num /ₙ int den

@@ -90,16 +90,6 @@ pub lowered_end : (num den l : ℕ) (a : Number) → 0 < den → (l ≡ 0) ⊎ (
 lowered_end num den l a h (inl e) v = same-fraction num den num (den * 10 ^ l) h (mul-pos h (power_pos l)) (rw e (omega arith)) ∙ v
 lowered_end num den l a h (inr e) v = same-fraction num den num (den * 10 ^ l) h (mul-pos h (power_pos l)) (rw e (omega arith)) ∙ v
 
-pub raised_end : (p l n : ℕ) → (l ≡ 0) ⊎ (p ≡ 0) → p * 10 ^ l ≡ n → p ≡ n
-raised_end p l n (inl e) v = sym (one p) ∙ subst (λ (x : ℕ). p * 10 ^ x ≡ n) e v
-  where
-    one : (p : ℕ) → p * 10 ^ 0 ≡ p
-    one p = omega arith
-raised_end p l n (inr e) v = e ∙ sym (none (10 ^ l)) ∙ subst (λ (x : ℕ). x * 10 ^ l ≡ n) e v
-  where
-    none : (x : ℕ) → 0 * x ≡ 0
-    none x = omega arith
-
 pub up_shift : (n u d : ℕ) → d ≤ u → make (pos (n * 10 ^ (u - d))) 1 ≡ make (pos (n * 10 ^ u)) (10 ^ d)
 up_shift n u d h = same-fraction _ 1 _ _ (omega arith) (power_pos d) (split (u - d) u (omega arith))
   where

@@ -15,7 +15,8 @@ use Rattle.hys_number.specs.Ops.{neg, fits}
 use Rattle.hys_frac.specs.Read.{judged, literal_value, literal_reading, ratio_reading, unsigned_reading, turned, reading}
 use Rattle.hys_frac.specs.Written.{number_text}
 use Rattle.hys_frac.specs.declared.read.FracFault.TheVariants.{Form}
-use Rattle.hys_frac.proofs.Readings.{lt_true, lt_false, eq_true, eq_false, all_true, both_true, or_false, as_ok}
+use Rattle.hys_number.proofs.Bools.{lt_true, lt_false, eq_true, eq_false, all_true, both_true, or_false}
+use Rattle.hys_frac.proofs.Readings.{as_ok}
 
 digit_is : (c : ℕ) → digit_value c < 10 → (is_ascii_digit c ≡ true) × (48 ≤ c)
 digit_is c h = let r : IsInRange 48 57 c = digit_from_value c h in (in_range c r.0 r.1, r.0)
@@ -52,10 +53,10 @@ drop_of ds x rest = ap (λ (k : ℕ). drop k (ds ++ x ∷ rest)) (next (length d
     next : (k : ℕ) → k + 1 ≡ suc k
     next k = omega arith
 
-unfoldable plain_parts : List ℕ → Parts
+unfoldable pub plain_parts : List ℕ → Parts
 plain_parts ds = record { whole = ds; point = false; fraction = []; exponent_negative = false; exponent = []; len = length ds }
 
-scanned : (ds : List ℕ) → AllDigits 10 ds → scan_numeral ds ≡ plain_parts ds
+pub scanned : (ds : List ℕ) → AllDigits 10 ds → scan_numeral ds ≡ plain_parts ds
 unfolding plain_parts
 scanned ds h = ap scan_numeral (sym (append-nil ds)) ∙ scan_numeral-text_of (plain_parts ds) (record {
   whole_digits = h;

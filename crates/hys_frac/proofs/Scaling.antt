@@ -1,13 +1,14 @@
 -- A product over a divisor, by the size of its parts and then by its sign.
-use Rattle.std.proofs.Common.{◌≡◌, ◌≢◌, ◌↔◌, ℕ, zero, suc, ◌+◌, ◌*◌, ◌<◌, ◌^◌, ℤ, pos, negsuc, ◌*ℤ◌, neg_ℤ, int_lt, unsigned_abs, refl, sym, ◌∙◌, ap, ap₂, subst, Bool, true, false, arith, mul-pos, FitsSigned, w64, to_z, of_z, to_z-of_z, IsTrue, IsSome, None, Option, nat_lt, ◌&&◌}
+use Rattle.std.proofs.Common.{◌≡◌, ◌≢◌, ◌↔◌, ℕ, zero, suc, ◌+◌, ◌*◌, ◌<◌, ℤ, pos, negsuc, ◌*ℤ◌, neg_ℤ, int_lt, unsigned_abs, refl, sym, ◌∙◌, ap, ap₂, subst, Bool, true, false, arith, mul-pos, FitsSigned, w64, to_z, of_z, to_z-of_z, IsTrue, IsSome, None, Option}
 use Rattle.std.specs.Bool.{beq}
 use mir.Syntax.{w128}
 use borrow.Author.Differences.{ints, up, down, neg_is}
 use Rattle.hys_number.specs.Gcd.{gcd, gcd_comm}
-use Rattle.hys_number.specs.Number.{Number, make, make_reduced}
+use Rattle.hys_number.specs.Number.{Number, make}
 use Rattle.hys_number.specs.Ops.{◌*ₙ◌, ◌/ₙ◌, neg, whole, fits}
 use Rattle.hys_number.proofs.Laws.{ratio, mul-ratio, neg-ratio}
 use Rattle.hys_number.proofs.Scale.{same-over}
+use Rattle.hys_number.proofs.Signs.{fits_neg}
 use Rattle.hys_number.proofs.Inverse.{make-ratio, inverse_at, zero_num}
 
 -- a quotient by the sign of its divisor
@@ -50,21 +51,6 @@ turned z d c h n s = go z c.num refl s
     go (negsuc m) (pos (suc k)) e s = neg_as_ratio _ _ _ _ _ (mul-pos h (omega arith)) (ap (λ (x : ℤ). d * unsigned_abs x) e) (omega arith) ∙ sym (by_above (negsuc m) d c k h e)
     go (pos m) (negsuc k) e s = neg_as_ratio _ _ _ _ _ (mul-pos h (omega arith)) (ap (λ (x : ℤ). d * unsigned_abs x) e) (omega arith) ∙ sym (by_below (pos m) d c k h e)
     go (negsuc m) (negsuc k) e s = absurd (s refl)
-
--- a number fits where the one with the other sign does
-neg_parts : (q : Number) → ((neg q).num ≡ neg_ℤ q.num) × ((neg q).den ≡ q.den)
-unfolding neg
-neg_parts q = make_reduced (neg_ℤ q.num) q.den q.positive (ap (λ (n : ℕ). gcd n q.den) (abs_neg q.num) ∙ q.reduced)
-  where
-    abs_neg : (z : ℤ) → unsigned_abs (neg_ℤ z) ≡ unsigned_abs z
-    abs_neg z = omega (arith, ints)
-
-fits_neg : (q : Number) → fits (neg q) ≡ fits q
-unfolding fits
-fits_neg q = ap₂ (λ (m n : ℕ). nat_lt m (2 ^ 63) && nat_lt n (2 ^ 63)) (ap unsigned_abs (neg_parts q).0 ∙ abs_neg q.num) (neg_parts q).1
-  where
-    abs_neg : (z : ℤ) → unsigned_abs (neg_ℤ z) ≡ unsigned_abs z
-    abs_neg z = omega (arith, ints)
 
 size_fits : (z : ℤ) (d : ℕ) (c : Number) → 0 < d → c.num ≢ pos 0 → fits (make (pos (unsigned_abs z * c.den)) (d * unsigned_abs c.num)) ≡ fits (make z d /ₙ c)
 size_fits z d c h n = go (int_lt z (pos 0)) (int_lt c.num (pos 0)) refl refl

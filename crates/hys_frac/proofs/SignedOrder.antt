@@ -1,5 +1,5 @@
 -- The order of two ratios by their signs, and then by the sizes of their parts.
-use Rattle.std.proofs.Common.{◌≡◌, ℕ, ◌+◌, ◌*◌, ◌<◌, ◌^◌, ℤ, pos, negsuc, ◌-ℤ◌, neg_ℤ, ◌<ℤ◌, int_lt, unsigned_abs, refl, ◌∙◌, ap, ap₂, subst, subst₂, true, false, arith, mul-pos, FitsSigned, to_z, of_z, to_z-of_z, Less, Equal, Greater, Ordering}
+use Rattle.std.proofs.Common.{◌≡◌, ℕ, ◌+◌, ◌*◌, ◌<◌, ◌^◌, ℤ, pos, negsuc, ◌-ℤ◌, ◌<ℤ◌, int_lt, unsigned_abs, refl, ◌∙◌, ap, ap₂, subst, subst₂, true, false, arith, mul-pos, FitsSigned, to_z, of_z, to_z-of_z, Less, Equal, Greater, Ordering}
 use Rattle.std.specs.Ordering.{MatchOrdering, nat_cmp}
 use mir.Syntax.{w128}
 use borrow.Author.Differences.{ints, up, down}
@@ -7,6 +7,7 @@ use Rattle.hys_number.specs.Number.{Number, make}
 use Rattle.hys_number.specs.Ops.{◌<ₙ◌, ◌/ₙ◌, int}
 use Rattle.hys_number.proofs.Laws.{same-ratio, lt-ratio}
 use Rattle.hys_number.proofs.Inverse.{make-ratio, made_positive, made_negative, made_quotient}
+use Rattle.hys_frac.proofs.Fracs.{negated}
 use Rattle.hys_frac.proofs.QuotientOrder.{alike, nat_ranks}
 
 -- the order of two numbers, as `MatchOrdering` says it
@@ -80,9 +81,6 @@ sign_moved num den u a t f g e =
     let n : int_lt den (pos 0) ≡ true = subst (λ (x : ℤ). int_lt x (pos 0) ≡ true) (to_z-of_z g) t in
     let l : den <ℤ pos 0 = omega (arith, ints) in
     ap₂ make (negated num a f) (e ∙ ap unsigned_abs (to_z-of_z g)) ∙ made_negative num den l ∙ made_quotient num den
-  where
-    negated : (z : ℤ) → unsigned_abs z < 2 ^ 127 → FitsSigned w128 z → to_z w128 (of_z w128 (pos 0 -ℤ to_z w128 (of_z w128 z))) ≡ neg_ℤ z
-    negated z h f = let e : to_z w128 (of_z w128 z) ≡ z = to_z-of_z f in rw e (omega (arith, ints))
 
 pub sign_kept : (num den : ℤ) (u : ℕ) → ¬ (den ≡ pos 0) → int_lt (to_z w128 (of_z w128 den)) (pos 0) ≡ false → FitsSigned w128 num → FitsSigned w128 den →
     u ≡ unsigned_abs (to_z w128 (of_z w128 den)) → make (to_z w128 (of_z w128 num)) u ≡ int num /ₙ int den

@@ -1,15 +1,10 @@
 -- Whole numbers of 32 bits as fractions.
 use Rattle.std.proofs.Common.{◌≡◌, ℕ, ◌<◌, ◌^◌, ℤ, pos, sym, ap, subst, arith, w64, to_z}
-use Rattle.std.proofs.Math.Nat.{mod-one}
 use borrow.Author.Differences.{ints}
-use Rattle.hys_number.specs.Gcd.{gcd, gcd_within}
+use Rattle.hys_number.specs.Gcd.{gcd-one}
 use Rattle.hys_number.specs.Number.{make}
 use Rattle.hys_number.specs.Ops.{whole}
 use Rattle.hys_frac.specs.Frac.{IsReduced}
-
-gcd-one : (n : ℕ) → gcd n 1 ≡ 1
-unfolding gcd
-gcd-one n = ap (λ r. gcd_within 1 1 r) (mod-one n)
 
 widened : (n : ℕ) → n < 2 ^ 32 → to_z w64 n ≡ pos n
 widened n h = omega (arith, ints)

@@ -1,4 +1,4 @@
-use Rattle.std.specs.Prelude.{◌↔◌, IsTrue, ◌≡◌, ℤ, pos, ◌*ℤ◌, ◌<ℤ◌, ◌≤ℤ◌, Bool, true, false, ◌&&◌}
+use Rattle.std.specs.Prelude.{◌↔◌, IsTrue, ◌≡◌, ℤ, pos, ◌*ℤ◌, ◌<ℤ◌, ◌≤ℤ◌, Bool, true, ◌&&◌}
 use Rattle.std.specs.Ordering.{int_cmp, int_eq, MatchOrdering, is_eq, as_partial_cmp}
 use Rattle.std.specs.declared.cmp.Ordering.{Ordering}
 use Rattle.std.specs.declared.cmp.Ordering.TheVariants.{Less, Equal, Greater}
@@ -7,6 +7,7 @@ use Rattle.std.proofs.Common.{refl, sym, ap, ap₂, ◌∙◌, subst, arith}
 use borrow.Author.Differences.{ints, at_most_in, up, down}
 use Rattle.hys_number.specs.Number.{Number, same_number}
 use Rattle.hys_number.specs.Ops.{◌≤ₙ◌, ◌<ₙ◌}
+use Rattle.hys_number.proofs.Bools.{and_both}
 use Rattle.hys_number.proofs.Order.{le_antisymm, lt_trans, lt_irrefl}
 
 -- what `cmp` answers
@@ -33,14 +34,10 @@ number_cmp_total = strict (λ a b. a <ₙ b) lt_irrefl lt_trans number_cmp numbe
 int_eq_is : (x y : ℤ) → (int_eq x y ≡ true) ↔ (x ≡ y)
 int_eq_is x y = grind (arith, ints)
 
-both_true : (a b : Bool) → a && b ≡ true → (a ≡ true) × (b ≡ true)
-both_true true b e = (refl, e)
-both_true false b e = absurd (cc)
-
 -- what the derived `==` says of two numbers
 pub eq_is : (q r : Number) (t : Bool) → t ≡ int_eq q.num r.num && int_eq (pos q.den) (pos r.den) → IsTrue t ↔ (q ≡ r)
 eq_is q r t e = (
-  λ i. let p : (int_eq q.num r.num ≡ true) × (int_eq (pos q.den) (pos r.den) ≡ true) = both_true _ _ (sym e ∙ i) in
+  λ i. let p : (int_eq q.num r.num ≡ true) × (int_eq (pos q.den) (pos r.den) ≡ true) = and_both _ _ (sym e ∙ i) in
       same_number q r ((int_eq_is _ _).0 p.0) (omega (arith, ints, (int_eq_is (pos q.den) (pos r.den)).0 p.1)),
   λ i. e ∙ ap₂ ◌&&◌ ((int_eq_is _ _).1 (ap (λ (x : Number). x.num) i)) ((int_eq_is _ _).1 (ap (λ (x : Number). pos x.den) i)),
 )

@@ -4,8 +4,9 @@ use Rattle.std.proofs.Common.{get_or, take, drop, refl, sym, ◌∙◌, ap, arit
 use Rattle.std.proofs.lemmas.List.{take_more, take_at, drop_at, take-append-drop}
 use Rattle.hys_number.specs.Number.{Number}
 use Rattle.hys_number.specs.Ops.{◌+ₙ◌, ◌*ₙ◌, ◌-ₙ◌, neg, whole}
-use Rattle.hys_number.proofs.Field.{add_zero, neg_neg}
+use Rattle.hys_number.proofs.Field.{add_zero}
 use Rattle.hys_number.proofs.Ring.{by_ring, v, k, minus, ◌⊕◌, ◌⊗◌, ◌⊖◌}
+use Rattle.hys_number.proofs.Signs.{neg_is_zero}
 use Rattle.hys_lin.specs.declared.form.Term.{Term}
 use Rattle.hys_lin.specs.Sums.{Assignment, sum_of, AreTerms, EachColumn}
 use Rattle.hys_lin.specs.declared.form.Affine.{Affine}
@@ -213,15 +214,12 @@ signed_each P Upper ts h = go ts h
     go (t ∷ us) h = (h.0, go us h.1)
 signed_each P Lower ts h = h
 
-neg_zero : (a : Number) → neg a ≡ whole 0 → a ≡ whole 0
-neg_zero a e = sym (neg_neg a) ∙ ap neg e ∙ by_ring [] (minus (k 0)) (k 0) refl
-
 pub signed_terms : (s : Side) (ts : List Term) → AreTerms ts → AreTerms (signed s ts)
 signed_terms Upper ts h = go ts h
   where
     go : (us : List Term) → AreTerms us → AreTerms (negated us)
     go [] h = tt
-    go (t ∷ us) h = (λ e. h.0 (neg_zero t.factor e), signed_each (λ d. t.column < d) Upper us h.1, go us h.2)
+    go (t ∷ us) h = (λ e. h.0 (neg_is_zero t.factor e), signed_each (λ d. t.column < d) Upper us h.1, go us h.2)
 signed_terms Lower ts h = h
 
 pub negated_sum : (ts : List Term) (w : Assignment) → sum_of (signed Upper ts) w ≡ neg (sum_of ts w)

@@ -1,5 +1,6 @@
 ghost use Rattle.std.specs.Prelude.{◌≡◌};
 ghost use Rattle.hys_guard.specs.declared.fault.GuardFault.TheVariants.{Memory};
+ghost use Rattle.hys_guard.specs.declared.fault.GuardFault.TheVariants.{Lost as Shown};
 
 use hys_lin::Lost;
 use std::alloc::{AllocError, AllocFailed};
@@ -9,6 +10,14 @@ use std::alloc::{AllocError, AllocFailed};
 pub enum GuardFault {
     Lost(Lost),
     Memory,
+}
+
+impl From<Lost> for GuardFault {
+    ghost from_gives = { λ l e. e ≡ Shown l };
+
+    fn from(lost: Lost) -> GuardFault {
+        GuardFault::Lost(lost)
+    }
 }
 
 impl From<AllocError> for GuardFault {

@@ -7,21 +7,14 @@ ghost use Rattle.hys_guard.specs.Set.{join_by};
 use crate::fault::GuardFault;
 use crate::terms::Side;
 use hys_frac::Frac;
-use hys_lin::{Lost, Op};
+use hys_lin::{add, multiply, subtract};
 
 /// The exact difference.
 pub fn difference(left: Frac, right: Frac) -> Result<Frac, GuardFault>
     ensures value { IfOk result (λ r. r ≡ left -ₙ right) }
     ensures judged { Judged (minus left right ∷ []) result }
 {
-    match left.sub(right) {
-        Some(number) => Ok(number),
-        None => Err(GuardFault::Lost(Lost {
-            op: Op::Sub,
-            left,
-            right,
-        })),
-    }
+    Ok(subtract(left, right)?)
 }
 
 /// The exact product.
@@ -29,14 +22,7 @@ pub fn product(left: Frac, right: Frac) -> Result<Frac, GuardFault>
     ensures value { IfOk result (λ r. r ≡ left *ₙ right) }
     ensures judged { Judged (times left right ∷ []) result }
 {
-    match left.mul(right) {
-        Some(number) => Ok(number),
-        None => Err(GuardFault::Lost(Lost {
-            op: Op::Mul,
-            left,
-            right,
-        })),
-    }
+    Ok(multiply(left, right)?)
 }
 
 /// The factor of a column that a literal and a form share: the form is subtracted in a row that
@@ -47,13 +33,6 @@ pub fn joined(side: Side, left: Frac, right: Frac) -> Result<Frac, GuardFault>
 {
     match side {
         Side::Upper => difference(left, right),
-        Side::Lower => match left.add(right) {
-            Some(number) => Ok(number),
-            None => Err(GuardFault::Lost(Lost {
-                op: Op::Add,
-                left,
-                right,
-            })),
-        },
+        Side::Lower => Ok(add(left, right)?),
     }
 }

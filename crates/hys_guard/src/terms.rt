@@ -70,9 +70,10 @@ pub fn set_factor(terms: &mut Vec<Term>, column: u32, factor: Frac) -> Result<()
     ensures { IfOk result (λ _. IsSet column (coefficient terms.old.items column) factor terms.old.items terms.new.items) }
 {
     let place = take_out(terms, column);
-    if factor != Frac::whole(0) {
-        terms.insert(place, Term { column, factor })?;
+    if factor.is_zero() {
+        return Ok(());
     }
+    terms.insert(place, Term { column, factor })?;
     Ok(())
 }
 

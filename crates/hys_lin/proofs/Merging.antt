@@ -1,8 +1,9 @@
-use Rattle.std.proofs.Common.{◌≡◌, ℕ, ◌<◌, List, [], ◌∷◌, ◌++◌, Option, Some, None, refl, sym, ap, ap₂, subst, ◌∙◌, arith, append_assoc, append-nil, Bool, true, false, nat_eq, cond, tests, Ordering, Less, Equal, Greater, ◌⊎◌, inl, inr}
+use Rattle.std.proofs.Common.{◌≡◌, ℕ, ◌<◌, List, [], ◌∷◌, ◌++◌, Option, Some, None, refl, sym, ap, ap₂, subst, ◌∙◌, arith, append_assoc, append-nil, Bool, true, false, cond, Ordering, Less, Equal, Greater, ◌⊎◌, inl, inr}
 use Rattle.std.specs.Ordering.{nat_cmp, MatchOrdering}
 use Rattle.std.specs.Cmp.{ranks}
 use Rattle.hys_number.specs.Number.{Number}
 use Rattle.hys_number.specs.Ops.{◌+ₙ◌, ◌*ₙ◌, whole, fits}
+use Rattle.hys_number.proofs.Bools.{eq_true, eq_false}
 use Rattle.hys_number.proofs.Cancel.{zero_add}
 use Rattle.hys_number.proofs.Ring.{by_ring, v, k, ◌⊕◌, ◌⊗◌}
 use Rattle.hys_lin.specs.declared.form.Term.{Term}
@@ -11,7 +12,7 @@ use Rattle.hys_lin.specs.declared.lost.Lost.{Lost}
 use Rattle.hys_lin.specs.Sums.{Assignment, sum_of, value, EachColumn, AreTerms}
 use Rattle.hys_lin.specs.Operations.{first_lost, times, plus}
 use Rattle.hys_lin.specs.Scaled.{coefficient, scaling, adding, scaled, taken, taking, by_order, merging, merged}
-use Rattle.hys_lin.proofs.Summing.{lost_after, lost_before}
+use Rattle.hys_lin.proofs.Summing.{lost_after}
 use Rattle.hys_lin.proofs.Lists.{each_more}
 use Rattle.hys_lin.proofs.Multiples.{sum_kept, each_kept, are_kept, sum-scaled, each-scaled, are-scaled}
 
@@ -94,22 +95,16 @@ pub items_next : (o : Ordering) (a : Term) (xs left : List Term) (by : Number) (
 items_next o a xs left by b ys right was now total e f i h n =
     rw (e, f, n) (append_assoc was (taken (nat_cmp a.column b.column) a by b) _ ∙ ap (λ (ts : List Term). was ++ ts) (sym (merged_at o a xs by b ys i)) ∙ ap₂ (λ (x y : List Term). was ++ merged x by y) (sym e) (sym f) ∙ h)
 
-nat_eq-false : (x y : ℕ) → (x ≡ y → ⊥) → nat_eq x y ≡ false
-nat_eq-false x y h = grind (arith, tests)
-
-nat_eq-true : (x y : ℕ) → x ≡ y → nat_eq x y ≡ true
-nat_eq-true x y h = grind (arith, tests)
-
 -- a column that stands before others has nothing to do with them
 coefficient_skip : (a : Term) (xs : List Term) (c : ℕ) → a.column < c → coefficient (a ∷ xs) c ≡ coefficient xs c
-coefficient_skip a xs c h = ap (λ (q : Bool). cond q a.factor (coefficient xs c)) (nat_eq-false a.column c (λ e. absurd (omega arith)))
+coefficient_skip a xs c h = ap (λ (q : Bool). cond q a.factor (coefficient xs c)) (eq_false a.column c (λ e. absurd (omega arith)))
 
 coefficient_here : (a : Term) (xs : List Term) (c : ℕ) → a.column ≡ c → coefficient (a ∷ xs) c ≡ a.factor
-coefficient_here a xs c h = ap (λ (q : Bool). cond q a.factor (coefficient xs c)) (nat_eq-true a.column c h)
+coefficient_here a xs c h = ap (λ (q : Bool). cond q a.factor (coefficient xs c)) (eq_true a.column c h)
 
 coefficient_none : (ts : List Term) (c : ℕ) → EachColumn (λ d. c < d) ts → coefficient ts c ≡ whole 0
 coefficient_none [] c h = refl
-coefficient_none (t ∷ ts) c h = ap (λ (q : Bool). cond q t.factor (coefficient ts c)) (nat_eq-false t.column c (λ e. absurd (omega (arith, h.0)))) ∙ coefficient_none ts c h.1
+coefficient_none (t ∷ ts) c h = ap (λ (q : Bool). cond q t.factor (coefficient ts c)) (eq_false t.column c (λ e. absurd (omega (arith, h.0)))) ∙ coefficient_none ts c h.1
 
 adding_skip : (a : Term) (xs : List Term) (by : Number) (ts : List Term) → EachColumn (λ d. a.column < d) ts → adding (a ∷ xs) by ts ≡ adding xs by ts
 adding_skip a xs by [] h = refl
@@ -141,11 +136,6 @@ module _ (a : Term) (xs : List Term) (by : Number) (b : Term) (ys : List Term) (
   adding_next Equal m e = at_equal m ∙ lost_after (taking Equal a by b) (adding xs by ys) e
   adding_next Greater m e = at_greater m ∙ lost_after (taking Greater a by b) (adding (a ∷ xs) by ys) e
 
-  adding_lost : (o : Ordering) (l : Lost) → MatchOrdering o (a.column < b.column) (a.column ≡ b.column) (b.column < a.column) → first_lost (taking o a by b) ≡ Some l → first_lost (adding (a ∷ xs) by (b ∷ ys)) ≡ Some l
-  adding_lost Less l m e = absurd (cc)
-  adding_lost Equal l m e = at_equal m ∙ lost_before (taking Equal a by b) (adding xs by ys) l e
-  adding_lost Greater l m e = at_greater m ∙ lost_before (taking Greater a by b) (adding (a ∷ xs) by ys) l e
-
   terms_next : (o : Ordering) → AreTerms (by_order o xs xs (a ∷ xs)) × AreTerms (by_order o (b ∷ ys) ys ys)
   terms_next Less = (p.2, q)
   terms_next Equal = (p.2, q.2)
@@ -161,11 +151,6 @@ loss_next left by right o a xs ls b ys rs e f i n s =
       left_terms = (terms_next a xs by b ys p q o).0;
       right_terms = (terms_next a xs by b ys p q o).1;
     })
-
-pub loss_shown : (left : List Term) (by : Number) (right : List Term) (a : Term) (xs ls : List Term) (b : Term) (ys rs : List Term) (l : Lost) → ls ≡ a ∷ xs → rs ≡ b ∷ ys →
-    first_lost (taking (nat_cmp a.column b.column) a by b) ≡ Some l → SameLoss left by right ls rs → first_lost (adding left by right) ≡ Some l
-loss_shown left by right a xs ls b ys rs l e f n s =
-    s.lost ∙ ap₂ (λ (x y : List Term). first_lost (adding x by y)) e f ∙ adding_lost a xs by b ys (subst AreTerms e s.left_terms) (subst AreTerms f s.right_terms) (nat_cmp a.column b.column) l (ranks a.column b.column) n
 
 -- ---- where one list is at its end
 pub merged_end : (xs : List Term) (by : Number) (ys : List Term) → (xs ≡ []) ⊎ (ys ≡ []) → merged xs by ys ≡ xs ++ scaled by ys

@@ -1,8 +1,8 @@
 use Rattle.std.proofs.Common.{◌≡◌, ℕ, zero, suc, ◌<◌, List, [], ◌∷◌, ◌++◌, ℤ, pos, negsuc, Some, None, Result, Ok, Err, refl, sym, ap, ap₂, subst, ◌∙◌}
 use Rattle.hys_number.specs.Number.{Number}
 use Rattle.hys_number.specs.Ops.{◌+ₙ◌, ◌*ₙ◌, whole}
-use Rattle.hys_number.proofs.Field.{mul_comm, mul_assoc, mul-add, mul_zero}
-use Rattle.hys_number.proofs.Cancel.{zero_add}
+use Rattle.hys_number.proofs.Field.{mul_assoc, mul-add, mul_zero}
+use Rattle.hys_number.proofs.Cancel.{zero_add, zero_mul}
 use Rattle.hys_number.proofs.Inverse.{zero_num}
 use Rattle.hys_lin.specs.declared.form.Term.{Term}
 use Rattle.hys_lin.specs.declared.form.Affine.{Affine}
@@ -44,7 +44,7 @@ pub sum_kept : (c : ℕ) (a : Number) (rest : List Term) (v : Assignment) → su
 sum_kept c a rest v = go a.num refl
   where
     go : (z : ℤ) → a.num ≡ z → sum_of (kept_by z (record { column = c; factor = a }) ++ rest) v ≡ a *ₙ v c +ₙ sum_of rest v
-    go (pos zero) e = sym (ap (λ (x : Number). x *ₙ v c +ₙ sum_of rest v) ((zero_num a).0 e) ∙ ap (λ (x : Number). x +ₙ sum_of rest v) (mul_comm (whole 0) (v c) ∙ mul_zero (v c)) ∙ zero_add (sum_of rest v))
+    go (pos zero) e = sym (ap (λ (x : Number). x *ₙ v c +ₙ sum_of rest v) ((zero_num a).0 e) ∙ ap (λ (x : Number). x +ₙ sum_of rest v) (zero_mul (v c)) ∙ zero_add (sum_of rest v))
     go (pos (suc n)) e = refl
     go (negsuc n) e = refl
 

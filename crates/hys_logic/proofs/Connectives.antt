@@ -19,7 +19,7 @@ use Rattle.hys_logic.specs.declared.row.Sign.TheVariants.{Plus, Minus}
 use Rattle.hys_logic.specs.Literals.{column_part, constant_part, number_of, opposite}
 use Rattle.hys_logic.specs.Rows.{signed, row_by, connective_stated}
 use Rattle.hys_lin.specs.Stated.{HoldStated}
-use Rattle.hys_logic.proofs.Smalls.{int-whole, int-minus}
+use Rattle.hys_number.proofs.Ring.{int-whole, int_minus}
 
 -- ---- truth values
 abbrev BitRow : Sign → Bool → Sign → Bool → Sign → Bool → Number → Type 0
@@ -103,7 +103,7 @@ iff_means a b r v l m w f g h =
     let o : int (pos 1) ≡ whole 1 = int-whole 1 in
     let r1 = row_at Plus Minus Plus a b r (pos 1) (whole 1) v l m w o f g h in
     let r2 = row_at Minus Plus Plus a b r (pos 1) (whole 1) v l m w o f g h in
-    let r3 = row_at Minus Minus Minus a b r (negsuc 0) (neg (whole 1)) v l m w int-minus f g h in
+    let r3 = row_at Minus Minus Minus a b r (negsuc 0) (neg (whole 1)) v l m w int_minus f g h in
     let r4 = row_at Plus Plus Minus a b r (pos 1) (whole 1) v l m w o f g h in
     (λ d. (bits_iff l m w).0 (r1.0 d.0, r2.0 d.1.0, r3.0 d.1.1.0, r4.0 d.1.1.1.0), λ d. let y = (bits_iff l m w).1 d in (r1.1 y.0, (r2.1 y.1, (r3.1 y.2, (r4.1 y.3, tt)))))
 

@@ -1,12 +1,11 @@
 -- Lists of terms of small rows.
-use Rattle.std.specs.Prelude.{◌≡◌, ℕ, ◌+◌, ◌*◌, ◌<◌, ◌≤◌, List, [], ◌∷◌, ◌++◌, length, Bool, true, false}
+use Rattle.std.specs.Prelude.{◌≡◌, ℕ, ◌+◌, ◌<◌, ◌≤◌, List, [], ◌∷◌, ◌++◌, length, Bool, true, false}
 use Rattle.std.proofs.Common.{refl, sym, ◌∙◌, ap, ap₂, arith, subst}
 use Rattle.hys_number.specs.Number.{Number}
-use Rattle.hys_number.specs.Ops.{◌+ₙ◌, ◌*ₙ◌, neg, whole}
-use Rattle.hys_number.proofs.Laws.{ratio, whole-ratio}
-use Rattle.hys_number.proofs.Scale.{same-over}
+use Rattle.hys_number.specs.Ops.{◌+ₙ◌, ◌*ₙ◌, whole}
 use Rattle.hys_number.proofs.Field.{add_zero, neg_neg}
 use Rattle.hys_number.proofs.Ring.{by_ring, v, k, minus, ◌⊕◌, ◌⊗◌, ◌⊖◌}
+use Rattle.hys_number.proofs.Signs.{neg_is_zero, whole-same}
 use Rattle.hys_lin.specs.declared.form.Term.{Term}
 use Rattle.hys_lin.specs.declared.form.Affine.{Affine}
 use Rattle.hys_lin.specs.Bits.{bit}
@@ -21,17 +20,11 @@ use Rattle.hys_logic.specs.Rows.{signed, turned, own_terms, IsSum, AreOf}
 
 -- ---- factors that aren't 0
 whole_zero : (n : ℕ) → 0 < n → ¬ (whole n ≡ whole 0)
-whole_zero n l e = let h : 0 < 1 = omega arith in differ (rw (whole-ratio n 1 h, whole-ratio 0 1 h) at e)
-  where
-    differ : ratio (n * 1) 0 1 ≡ ratio (0 * 1) 0 1 → ⊥
-    differ e = let h : 0 < 1 = omega arith in absurd (omega (arith, (same-over 1 h (n * 1) 0 (0 * 1) 0).0 e))
-
-neg_back : (a : Number) → neg a ≡ whole 0 → a ≡ whole 0
-neg_back a e = sym (neg_neg a) ∙ ap neg e ∙ by_ring [] (minus (k 0)) (k 0) refl
+whole_zero n l e = absurd (omega (arith, (whole-same n 0).0 e))
 
 pub signed_zero : (s : Sign) (n : ℕ) → 0 < n → ¬ (signed s (whole n) ≡ whole 0)
 signed_zero Plus n l e = whole_zero n l e
-signed_zero Minus n l e = whole_zero n l (neg_back (whole n) e)
+signed_zero Minus n l e = whole_zero n l (neg_is_zero (whole n) e)
 
 signed-one : (s : Sign) (x : Number) → signed s (whole 1) *ₙ x ≡ signed s x
 signed-one Plus x = by_ring (x ∷ []) (k 1 ⊗ v 0) (v 0) refl

@@ -2,7 +2,8 @@ use Rattle.std.proofs.Common.{◌≡◌, ◌&&◌, ℕ, List, false, cond, lengt
 use Rattle.std.specs.Float.Numeral.{Parts, scan_numeral, has_digits}
 use Rattle.hys_frac.specs.Read.{judged, literal_value, literal_reading}
 use Rattle.hys_frac.specs.declared.read.FracFault.TheVariants.{Form, Long, Range}
-use Rattle.hys_frac.proofs.Readings.{lt_true, lt_false, eq_true, eq_false, both_true, either_false, not_true, as_form, as_long, as_ok, as_range}
+use Rattle.hys_number.proofs.Bools.{lt_true, lt_false, eq_true, eq_false, both_true, either_false, not_true}
+use Rattle.hys_frac.proofs.Readings.{as_form, as_long, as_ok, as_range}
 use Rattle.std.proofs.Common.{inl, inr}
 use Rattle.hys_frac.proofs.read.read_literal.Goals as goal
 use Rattle.hys_frac.proofs.read.read_literal.Goals.{then-not-has_digits-via-then-not-has_digits, then-not-has_digits-via-else-not-has_digits+then-len-text}

@@ -7,7 +7,8 @@ use Rattle.hys_number.specs.Number.{Number, make}
 use Rattle.hys_number.specs.Ops.{fits}
 use Rattle.hys_frac.specs.Read.{ratio_reading}
 use Rattle.hys_frac.proofs.Powers.{wide_is}
-use Rattle.hys_frac.proofs.Readings.{lt_true, lt_false, eq_true, eq_false, all_true, or_true, or_false, not_true, as_long, as_ok, as_range, front, ratio_form, all_digits, short_room, short_digits}
+use Rattle.hys_number.proofs.Bools.{lt_true, lt_false, eq_true, eq_false, all_true, or_true, or_false, not_true}
+use Rattle.hys_frac.proofs.Readings.{as_long, as_ok, as_range, front, ratio_form, all_digits, short_room, short_digits}
 use Rattle.std.proofs.Common.{inl, inr}
 use Rattle.hys_frac.proofs.read.read_ratio.Goals as goal
 use Rattle.hys_frac.proofs.read.read_ratio.Goals.{then-is_empty-via-then-is_empty, then-is_empty-via-else-is_empty+then-digits_end-below, then-is_empty-via-else-is_empty+else-digits_end-below+then-all_zero}

@@ -4,7 +4,8 @@ use Rattle.hys_number.specs.Number.{Number}
 use Rattle.hys_frac.specs.Read.{literal_reading, ratio_reading, unsigned_reading}
 use Rattle.hys_frac.specs.declared.read.FracFault.{FracFault}
 use Rattle.hys_frac.proofs.Numerals.{digits_at_front}
-use Rattle.hys_frac.proofs.Readings.{eq_true, eq_false, front}
+use Rattle.hys_number.proofs.Bools.{eq_true, eq_false}
+use Rattle.hys_frac.proofs.Readings.{front}
 use Rattle.std.proofs.lemmas.List.{take_all}
 use Rattle.std.proofs.Common.{length-drop}
 use Rattle.hys_frac.proofs.read.read_unsigned.Goals as goal

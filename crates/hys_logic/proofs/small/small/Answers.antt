@@ -1,7 +1,8 @@
 use Rattle.std.proofs.Common.{◌≡◌, ℤ, pos, ◌∙◌, ap, sym, arith, unsigned_abs, to_z, of_z, to_z-of_z, w8, FitsSigned, ◌≤◌}
 use borrow.Author.Differences.{ints}
 use Rattle.hys_number.specs.Ops.{neg, whole, int}
-use Rattle.hys_logic.proofs.Smalls.{int-neg, int-whole}
+use Rattle.hys_number.proofs.Ring.{int-whole}
+use Rattle.hys_logic.proofs.Smalls.{int-neg}
 use Rattle.hys_logic.proofs.small.small.Goals as goal
 
 signed_fits : (z : ℤ) → unsigned_abs z ≤ 3 → FitsSigned w8 z

@@ -2,7 +2,7 @@ use Rattle.std.proofs.Common.{◌≡◌, ℕ, List, true, ◌∙◌, sym, ap, sl
 use Rattle.hys_number.specs.Number.{Number}
 use Rattle.hys_frac.specs.Read.{unsigned_reading, turned, without_sign, reading}
 use Rattle.hys_frac.specs.declared.read.FracFault.{FracFault}
-use Rattle.hys_frac.proofs.Readings.{eq_true, eq_false}
+use Rattle.hys_number.proofs.Bools.{eq_true, eq_false}
 use Rattle.hys_frac.proofs.frac.Frac.read.Goals as goal
 
 plain : (text u : List ℕ) (k : ℕ) (r : Result Number FracFault) → k ≡ slice_index text 0 → (k ≡ 45 → ⊥) → u ≡ without_sign text → r ≡ unsigned_reading u → r ≡ reading text
