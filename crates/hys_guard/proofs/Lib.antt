@@ -1,2 +1,43 @@
+-- Notes on how this crate is proved: forms that worked, and traps.
+-- - A list of operations with `Judged os result` (Ok: all fit; Lost: the first that doesn't; Memory: free) as one
+--   clause per function composes by `search` alone, also over six `?` in a row, if each function has the list of its
+--   own operations and the caller's list is made of these by `∷` and `++`. No answer was needed.
+-- - Rows are given exactly by `IsRow row { left, bound }`: terms rising without 0, the sum for every assignment, the
+--   bound, no equation. This fixes the row, and the meaning is a lemma on `left` and `bound` alone; merging,
+--   dropping zeros and the order of terms never enter the meaning.
+-- - Set one factor of sorted terms in two functions: `take_out` (answers the place) and `set_factor`; their clause
+--   is a record of the parts before and behind (`Around`), and sums, order and columns are lemmas by `++`. A clause
+--   by index would need an induction each time.
+-- - A struct that is `Copy` and holds an `Option` and is carried over a `?` stops the generated proof ("it was not
+--   told which modules hold the type Option", reported by rattle as a bug of its own): pass a form or a reference
+--   and take the `Option` where it is used.
+-- - After a call with a local that owns memory (`let opposite = opposite(..)?`) the goals of the following calls
+--   show `borrow.Fn.Args.args_v ..` for an argument by value: put the local and the calls that use it into a
+--   function of its own.
+-- - An `i8` argument of a call is `to_z w8 (of_z w8 x)` in the caller's facts: turn it back by `to_z-of_z` with a
+--   bound.
+-- - A recursion over a boxed enum wants its own measure as soon as its `requires` speak of the tree: `decreases-f l
+--   = nodes (tree_of l.x.now)`; the answer is a tuple of the fall (`c.decreases : nodes .. ≡ t`, `omega`) and the
+--   requires.
+-- - `if` branches that each make a value: return in each branch (`Ok(f()?)`) or a helper per branch; joins lose
+--   facts.
+-- - A proof file's name must not differ from a module of src only in case (`proofs/Terms.antt` beside `src/terms.rt`
+--   is refused).
+-- - `v` and `k` of the ring normaliser are constructors: import them under other names in files with assignments
+--   `v`.
+-- - Truth table lemmas over `Bool`: one clause per case with `simp (overs, whole-ratio 0 1 h, whole-ratio 1 1 h)
+--   (omega arith)`.
+-- - Tests are proved too: a test that calls a function with `requires` makes its arguments by a helper whose clause
+--   gives them (`form` that leaves a column out, `small` that answers the number of connectives).
+-- - `rt tidy` puts the files back if more than layout moved, and then they may not be in the layout: run `rt fmt`
+--   after it.
+-- - A whole number in a body is `Frac::whole(2)`: its clause is `result ≡ whole 2`, and no constant of another crate
+--   has to be opened or wrapped.
+-- - `Judged os result` with `first_lost os ≡ None` for Ok and `first_lost os ≡ Some lost` for Lost composes by the
+--   tactics alone over six `?` in a row, where each function has the list of its own operations and the caller's
+--   list is made of these by `∷` and `++`. No answer was needed.
+-- - `nat_eq` is another name of `eqb`: definitions by the one and lemmas by the other fit without a bridge.
+-- - Lemmas on terms behind terms are in hys_lin/proofs/Lists, on stated rows in hys_lin/proofs/Stated; crates above
+--   cite them as `Rattle.hys_lin.proofs.Lists` and `..Stated`.
 pub mod Lists
 pub mod Meaning

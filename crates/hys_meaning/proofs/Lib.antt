@@ -1,1 +1,25 @@
+-- Notes on how this crate is proved: forms that worked, and traps.
+-- - Definitions as `abbrev` recursions over trees and lists (`AllByRecursion`, tests into `Bool`, `look` by `find`):
+--   at a concrete source every clause computes to products of `IsTrue true`, so a whole `Typed` is a tuple of
+--   `refl`s and `tt`s. Only numbers are `unfoldable` (`literal`, `whole`, `make`, the operators), so they stay whole
+--   words until a lemma rewrites them.
+-- - Property of some item: a recursive `SomeItem P` (a sum that computes), never `Contains` by index: the cases of a
+--   concrete source are then `elim` on `inl` and `inr`.
+-- - A numeric fact: rewrite literals and whole numbers to `ratio n 0 d` and then `simp (ratios, 0 < 1, 0 < 10, ..)
+--   (omega arith)`. `simp` needs the positivity of each denominator in its list, as lemmas on numerals. `literal
+--   (codes "0.8") ≡ ratio 8 0 10` by `unfolding literal scan_numeral` and `make-ratio`, at once; all of 40 such
+--   facts take under a second.
+-- - `is_one (whole 1) ≡ true` is `refl` under `unfolding is_one whole make gcd`.
+-- - A list of one number from `map w .. ≡ a ∷ []`: `ap (λ xs. get_or xs 0 a) e` with the type written in a `let`.
+-- - `rw L at h` wants `h` bound by a `let` where it is a field of a record; `rw (.., ← e) at h` rewrites to the
+--   sum's name.
+-- - That a name looked up in a list isn't the first: one lemma by cases on the test, `not_that`, used at `bytes_eq
+--   (codes "x") m`; then factors by `ap (λ b. .. cond b (whole 1) (whole 0) ..)`.
+-- - "No list is circular" where no definition mentions an AUX name: one lemma (`not_circular`); for a chain of
+--   definitions use a rank instead.
+-- - A `×` of three is one triple, that of `AllByRecursion` nests to the right: `(a, (b, tt))`.
+-- - `proofs/Guards.antt` clashes with the module that rattle makes for `src/guards.rt` (names that differ in case
+--   only).
+-- - A constructor with an implicit list field under `rw`: prove the fact by name first (`first_step`), then apply
+--   the constructor.
 pub mod Guardless
