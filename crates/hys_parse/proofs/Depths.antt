@@ -1,5 +1,5 @@
 -- The depth that is counted token by token is the number that its definition tells.
-use Rattle.std.proofs.Common.{◌≡◌, ℕ, zero, suc, ◌+◌, ◌-◌, ◌<◌, ◌≤◌, ◌⊎◌, ◌↔◌, ◌==◌, Bool, true, false, cond, IsTrue, List, [], ◌∷◌, ◌++◌, length, take, fold, refl, sym, ap, subst, ◌∙◌, inl, inr, arith, append_assoc, append-nil, length-append}
+use Rattle.std.proofs.Common.{◌≡◌, ℕ, zero, suc, ◌+◌, ◌-◌, ◌<◌, ◌⊎◌, ◌↔◌, ◌==◌, Bool, true, false, cond, IsTrue, List, [], ◌∷◌, ◌++◌, length, take, fold, refl, sym, ap, subst, ◌∙◌, inl, inr, arith, append_assoc, append-nil, length-append}
 use Rattle.std.specs.List.{AllByRecursion, count_by}
 use Rattle.std.proofs.lemmas.List.Sums.{fold-append, sum_by-cons}
 use Rattle.std.proofs.lemmas.Bool.{cases_lt, eqb-true}
@@ -7,7 +7,7 @@ use Rattle.hys_lex.specs.declared.token.Token.{Token}
 use Rattle.hys_lex.specs.declared.token.TokenKind.{TokenKind}
 use Rattle.hys_lex.specs.declared.token.TokenKind.TheVariants.{Name, Literal, Keyword, Sign}
 use Rattle.hys_lex.specs.declared.sign.TheConstants as sign
-use Rattle.hys_parse.specs.Depth.{opened, run_on, open_before, run_before, depth, is_opening, is_closing, is_prefix, IsClosedAmong, Unclosed, none, stays, ended, other, EndsIn, IsDepth}
+use Rattle.hys_parse.specs.Depth.{opened, run_on, depth, is_opening, is_closing, is_prefix, IsClosedAmong, Unclosed, none, stays, ended, other, EndsIn, IsDepth}
 
 -- ---- parentheses
 abbrev surplus_on : Bool → Bool → ℕ → ℕ

@@ -1,5 +1,5 @@
 -- The example sources are cut and read by computation.
-use Rattle.std.proofs.Common.{◌≡◌, ℕ, zero, suc, ◌<◌, ◌≤◌, inr, Err, Bool, true, false, not, ◌&&◌, List, [], ◌∷◌, length, get_or, map, nat_le, ltb, inl, refl, sym, subst, ◌∙◌, ap, Ok, All, append-nil, arith}
+use Rattle.std.proofs.Common.{◌≡◌, ℕ, zero, suc, ◌<◌, ◌≤◌, inr, Err, Bool, true, not, ◌&&◌, List, [], length, get_or, map, nat_le, ltb, inl, refl, sym, subst, ◌∙◌, ap, Ok, All, append-nil, arith}
 use Rattle.std.specs.List.{list_all}
 use Rattle.std.specs.Str.{bytes_eq}
 use Rattle.std.proofs.lemmas.Slice.Eq.{bytes_eq-Decides}
@@ -8,7 +8,7 @@ use Rattle.std.proofs.lemmas.List.Sums.{AllPass-from_list_all}
 use borrow.Author.Tests.{ltb-true}
 use Rattle.hys_lex.specs.Bytes.{is_letter, is_name_byte, is_digit}
 use Rattle.hys_lex.specs.Words.{keywords, signs, IsAt}
-use Rattle.hys_lex.specs.Pieces.{IsTokenText, IsLiteral}
+use Rattle.hys_lex.specs.Pieces.{IsLiteral}
 use Rattle.hys_lex.specs.Cut.{Cut}
 use Rattle.hys_lex.specs.Spaced.{Spelling, IsSpelled, spelling, spaced, spaced_tokens}
 use Rattle.hys_lex.specs.declared.token.Token.{Token}

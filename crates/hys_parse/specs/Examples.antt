@@ -1,6 +1,6 @@
 -- Sources with all operators and signs of expressions and all sections: their texts, their tokens
 -- and their trees, with all places. Each text is one line.
-use Rattle.std.specs.Prelude.{ℕ, ◌+◌, true, false, List, [], ◌∷◌, Option, Some, None, codes}
+use Rattle.std.specs.Prelude.{ℕ, ◌+◌, true, false, List, [], ◌∷◌, Some, None, codes}
 use Rattle.hys_lex.specs.declared.token.Token.{Token}
 use Rattle.hys_lex.specs.declared.token.TokenKind.TheVariants as kinds
 use Rattle.hys_ast.specs.declared.place.Place.{Place}
