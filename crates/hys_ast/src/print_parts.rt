@@ -7,7 +7,7 @@ use crate::print_expr::expression;
 use crate::source::{Decl, Item, Kind, Shape};
 use crate::tree::Expr;
 use crate::write::{put, put_text};
-use hys_frac::Text;
+use hys_base::Text;
 use std::alloc::{AllocError, Global};
 
 fn kind(kind: Kind) -> &'static [u8]

@@ -1,6 +1,6 @@
 use crate::place::Place;
 use crate::tree::Expr;
-use hys_frac::{List, Text};
+use hys_base::{List, Text};
 
 /// The section that a declaration or an item stands in. `OutputItem` is the OUTPUT of the
 /// IMPLEMENTATION.

@@ -14,7 +14,7 @@ use crate::item::items;
 use crate::repeat::all_turns;
 use crate::stop::Stop;
 use hys_ast::{Decl, Lexeme, Section, Source};
-use hys_frac::List;
+use hys_base::List;
 use hys_lex::{TokenKind, keyword, sign};
 use std::alloc::Global;
 

@@ -13,10 +13,10 @@ use Rattle.hys_ast.specs.declared.source.Section.{Section}
 use Rattle.hys_ast.specs.declared.source.Section.TheVariants as section
 use Rattle.hys_ast.specs.Tree.{Tree, Decl, Item, Shape, Source}
 use Rattle.hys_ast.specs.Tree as tree
-use Rattle.hys_ast.specs.Values.{Assignment}
-use Rattle.hys_ast.specs.Names.{Name, name_of, names, parameters, texts, is_state, is_input, is_output, is_auxiliary}
-use Rattle.hys_ast.specs.Typed.{differ, defines, is_real}
-use Rattle.hys_ast.specs.Circular.{SomeItem}
+use Rattle.hys_meaning.specs.Values.{Assignment}
+use Rattle.hys_meaning.specs.Names.{Name, name_of, names, parameters, texts, is_state, is_input, is_output, is_auxiliary}
+use Rattle.hys_meaning.specs.Typed.{differ, defines, is_real}
+use Rattle.hys_meaning.specs.Circular.{SomeItem}
 use Rattle.hys_lin.specs.declared.form.Affine.{Affine}
 use Rattle.hys_plain.proofs.Ends.{plain_but_value}
 use Rattle.hys_plain.specs.Plain.{is_plain_decl, is_plain_item, is_plain_shape, is_continuous, is_end, is_sum, is_right_side, names_in, lone_literals, declared_texts}

@@ -6,10 +6,10 @@ use Rattle.hys_lin.specs.Over.{AreTermsOver}
 use Rattle.hys_lin.specs.declared.form.Affine.{Affine}
 use Rattle.hys_ast.specs.Tree.{Tree, Shape, Source}
 use Rattle.hys_ast.specs.Tree as tree
-use Rattle.hys_ast.specs.Values.{Assignment, value}
-use Rattle.hys_ast.specs.Names.{Name, names, texts, is_state, is_input}
-use Rattle.hys_ast.specs.Typed.{defines}
-use Rattle.hys_ast.specs.Circular.{SomeItem}
+use Rattle.hys_meaning.specs.Values.{Assignment, value}
+use Rattle.hys_meaning.specs.Names.{Name, names, texts, is_state, is_input}
+use Rattle.hys_meaning.specs.Typed.{defines}
+use Rattle.hys_meaning.specs.Circular.{SomeItem}
 use Rattle.hys_plain.specs.declared.parts.Boxed.{Boxed}
 use Rattle.hys_plain.specs.declared.parts.PlainParts.{PlainParts}
 

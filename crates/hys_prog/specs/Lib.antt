@@ -1,4 +1,4 @@
-pub mod Formulas
 pub mod Programs
 pub mod Example
-pub mod Folding
+pub mod Steps
+pub mod Orders
