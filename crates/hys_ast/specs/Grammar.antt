@@ -88,10 +88,24 @@ abbrev pub DerivesExpr : List Lexeme → List Lexeme → Tree → Type 0
 DerivesExpr = Derives (At level.Arrow)
 
 -- A declared name: alone, with bounds, or with a value.
+abbrev pub is_real : Kind → Bool
+is_real kind.Real = true
+is_real kind.Bool = false
+
 abbrev pub has_bounds : Section → Kind → Bool
-has_bounds section.State kind.Real = true
-has_bounds section.Input kind.Real = true
-has_bounds _ _ = false
+has_bounds section.State k = is_real k
+has_bounds section.Input k = is_real k
+has_bounds section.Output k = false
+has_bounds section.Parameter k = false
+has_bounds section.Aux k = false
+has_bounds section.Ad k = false
+has_bounds section.Da k = false
+has_bounds section.Logic k = false
+has_bounds section.Linear k = false
+has_bounds section.Automata k = false
+has_bounds section.Continuous k = false
+has_bounds section.OutputItem k = false
+has_bounds section.Must k = false
 
 pub data DerivesDecl : Section → Kind → List Lexeme → List Lexeme → Decl → Type 0 where
   plain : {s : Section} {k : Kind} {rest : List Lexeme} (l : Lexeme) → Is token.Name l →
@@ -189,12 +203,19 @@ pub data DerivesGuard : List Lexeme → List Lexeme → Shape → Type 0 where
 
 -- the sections whose items are a name, `=` and an expression
 abbrev pub has_formulas : Section → Bool
+has_formulas section.State = false
+has_formulas section.Input = false
+has_formulas section.Output = false
+has_formulas section.Parameter = false
+has_formulas section.Aux = false
+has_formulas section.Ad = false
+has_formulas section.Da = false
 has_formulas section.Logic = true
 has_formulas section.Linear = true
 has_formulas section.Automata = true
 has_formulas section.Continuous = true
 has_formulas section.OutputItem = true
-has_formulas _ = false
+has_formulas section.Must = false
 
 pub data DerivesItem : Section → List Lexeme → List Lexeme → Item → Type 0 where
   formula : {s : Section} {next rest : List Lexeme} {e : Tree} (l equals end : Lexeme) → has_formulas s ≡ true → Is token.Name l → Is (token.Sign sign.EQUALS) equals →

@@ -150,7 +150,9 @@ kind_word kind.Bool = word keyword.BOOL (codes "BOOL")
 abbrev pub bounds_words : Option Tree → Option Tree → List Spelling → List Spelling
 bounds_words (Some low) (Some high) rest =
     mark sign.OPEN_BRACKET (codes "[") ∷ expr_words low (mark sign.COMMA (codes ",") ∷ expr_words high (mark sign.CLOSE_BRACKET (codes "]") ∷ rest))
-bounds_words _ _ rest = rest
+bounds_words (Some low) None rest = rest
+bounds_words None (Some high) rest = rest
+bounds_words None None rest = rest
 
 abbrev pub value_words : Option Tree → List Spelling → List Spelling
 value_words None rest = rest

@@ -3,13 +3,17 @@ use Rattle.std.specs.Prelude.{ℕ, ◌≤◌, Bool, true, false, List, [], ◌�
 use Rattle.hys_lex.specs.Spaced.{Spelling}
 use Rattle.hys_ast.specs.Operators.{level_of}
 use Rattle.hys_ast.specs.Nodes.{nodes}
-use Rattle.hys_ast.specs.Tree.{Tree, Binary}
+use Rattle.hys_ast.specs.Tree.{Tree, Number, Name, Truth, Cast, Unary, Binary}
 use Rattle.hys_ast.specs.Printed.{binary_mark, left_strength, right_strength, is_loose, close_words, operand_words}
 
 -- what follows the left operand of an operator
 abbrev pub behind_left : Tree → List Spelling → List Spelling
 behind_left (Binary op a b place) rest = close_words (is_loose (left_strength (level_of op)) a) (binary_mark op ∷ operand_words (right_strength (level_of op)) b rest)
-behind_left _ rest = rest
+behind_left (Number text place) rest = rest
+behind_left (Name text place) rest = rest
+behind_left (Truth value place) rest = rest
+behind_left (Cast text place) rest = rest
+behind_left (Unary op a place) rest = rest
 
 -- what follows the left operands of operators, each of them the left operand of the one before it
 abbrev pub behind : List Tree → List Spelling → List Spelling
@@ -19,7 +23,11 @@ behind (e ∷ es) rest = behind es (behind_left e rest)
 -- no operator between two operands
 abbrev pub is_single : Tree → Bool
 is_single (Binary op a b place) = false
-is_single _ = true
+is_single (Number text place) = true
+is_single (Name text place) = true
+is_single (Truth value place) = true
+is_single (Cast text place) = true
+is_single (Unary op a place) = true
 
 -- no expression has more nodes
 abbrev pub Within : ℕ → List Tree → Type 0

@@ -2,6 +2,7 @@
 #![tactic(auto)]
 
 mod count;
+pub mod laws;
 mod level;
 mod lexeme;
 mod place;

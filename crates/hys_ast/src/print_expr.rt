@@ -3,7 +3,7 @@ ghost use Rattle.hys_lex.specs.Spaced.{Spelling, spaced};
 ghost use Rattle.hys_ast.specs.Operators.{level_of};
 ghost use Rattle.hys_ast.specs.Seen.{tree_of};
 ghost use Rattle.hys_ast.specs.Nodes.{nodes};
-ghost use Rattle.hys_ast.specs.Printed.{Writes, truth_word, unary_mark, binary_mark, strength_at, unary_strength, strength, left_strength, right_strength, open_words, close_words, cast_words, expr_words, operand_words, NeedsParentheses, is_loose};
+ghost use Rattle.hys_ast.specs.Printed.{Writes, truth_word, unary_mark, binary_mark, strength_at, unary_strength, strength, left_strength, right_strength, open_words, close_words, cast_words, expr_words, operand_words, is_loose};
 ghost use Rattle.hys_ast.specs.Spines.{behind_left, behind, is_single, Within};
 
 use crate::level::Level;
@@ -114,8 +114,7 @@ fn cast(out: &mut Vec<u8>, name: &Text) -> Result<(), AllocError>
 
 // Whether an operand that has to hold together so tightly needs parentheses.
 fn is_loose(least: u8, expr: &Expr) -> bool
-    ensures value { result ≡ is_loose least (tree_of expr.now) }
-    ensures needed { least ≤ 8 → result ≡ true → NeedsParentheses least (tree_of expr.now) }
+    ensures { result ≡ is_loose least (tree_of expr.now) }
 {
     strength(expr) < least
 }
@@ -199,7 +198,7 @@ fn right_side(alloc: Global, out: &mut Vec<u8>, expr: &Expr) -> Result<(), Alloc
     }
 }
 
-/// Appends an expression, with the parentheses that it needs and no others.
+/// Appends an expression.
 #[cycle(expressions)]
 pub fn expression(alloc: Global, out: &mut Vec<u8>, expr: &Expr) -> Result<(), AllocError>
     ensures { IfOk result (λ _. Writes out.old.items out.new.items (expr_words (tree_of expr.now))) }

@@ -1,4 +1,4 @@
-ghost use Rattle.std.specs.Prelude.{◌≡◌, ◌∷◌, ◌++◌, List, None, map, IfOk};
+ghost use Rattle.std.specs.Prelude.{◌≡◌, [], ◌∷◌, ◌++◌, List, None, map, IfOk};
 ghost use Rattle.hys_lex.specs.Spaced.{Spelling, spaced};
 ghost use Rattle.hys_ast.specs.Seen.{decl_of, item_of, source_of};
 ghost use Rattle.hys_ast.specs.Grammar.{number_of};
@@ -164,10 +164,11 @@ fn whole(alloc: Global, out: &mut Vec<u8>, source: &Source) -> Result<(), AllocE
 }
 
 /// A text of the source: its tokens derive the source, places aside. Each token is followed by a
-/// space, and no parentheses stand where none are needed.
+/// space, and an operand stands in parentheses only where it needs them, by `laws::parentheses`.
 pub fn print(alloc: Global, source: &Source) -> Result<Vec<u8>, AllocError>
     requires { HasText (source_of source.now) }
-    ensures { IfOk result (λ v. PrintOf v.items (source_of source.now)) }
+    ensures print { IfOk result (λ v. PrintOf v.items (source_of source.now)) }
+    ensures text { IfOk result (λ v. v.items ≡ spaced (source_words (source_of source.now) [])) }
 {
     let mut out = Vec::new(alloc);
     whole(alloc, &mut out, source)?;

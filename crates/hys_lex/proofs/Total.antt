@@ -1,12 +1,11 @@
 -- At the front of every text that is not empty stands a longest match within its limit, or a cause why none does.
 -- So every text has a cut or a first fault.
-use Rattle.std.proofs.Common.{◌≡◌, ◌<◌, ◌≤◌, ◌+◌, ◌-◌, ◌⊎◌, ℕ, zero, suc, List, [], ◌∷◌, ◌++◌, length, get_or, take, drop, Bool, true, false, refl, sym, ◌∙◌, ap, subst, arith, inl, inr, length-drop, below_more}
+use Rattle.std.proofs.Common.{◌≡◌, ◌<◌, ◌≤◌, ◌+◌, ◌-◌, ◌⊎◌, ℕ, zero, suc, List, [], length, get_or, take, drop, Bool, true, false, refl, sym, ◌∙◌, ap, subst, arith, inl, inr, length-drop}
 use Rattle.std.proofs.lemmas.List.{get_or-take, length-take-le, get_or_past, take_all}
 use Rattle.std.proofs.lemmas.Bool.{cases_lt, cases_eq}
 use Rattle.std.proofs.lemmas.Slice.Eq.{bytes_eq-Decides}
 use Rattle.std.specs.Str.{bytes_eq}
 use Rattle.std.specs.List.{prefix_len}
-use Rattle.std.proofs.lemmas.List.Sums.{prefix_len-le-length}
 use Rattle.hys_lex.specs.Bytes.{is_blank, is_letter, is_name_byte, is_digit, is_exponent_mark, is_plus_or_minus, begins_literal}
 use Rattle.hys_lex.specs.Words.{IsAt, keywords, signs}
 use Rattle.hys_lex.specs.Pieces.{PieceKind, Blank, Block, Line, Lexeme, IsBlock, IsMantissa, IsExponent, IsLiteral, IsLongest, IsWithinLimit, ClosesAt}
@@ -40,9 +39,9 @@ first_of P test zero = inr (λ j less h. absurd (omega arith))
 first_of P test (suc n) = elim (first_of P test n) [
   | inl f ↦ inl (record { place = f.place; inside = omega (arith, f.inside); here = f.here; before = f.before })
   | inr none ↦ elim (test n) [
-      | inl h ↦ inl (record { place = n; inside = omega arith; here = h; before = none })
-      | inr absent ↦ inr (λ j less h. elim (cases_eq j n) [ inl e ↦ absent (subst P e h) | inr other ↦ none j (omega arith) h ])
-    ]
+    | inl h ↦ inl (record { place = n; inside = omega arith; here = h; before = none })
+    | inr absent ↦ inr (λ j less h. elim (cases_eq j n) [ inl e ↦ absent (subst P e h) | inr other ↦ none j (omega arith) h ])
+  ]
 ]
 
 -- ---- what stands at the front
@@ -54,9 +53,9 @@ pub data AtFront (text : List ℕ) : Type 0 where
 keyword_test : (bytes : List ℕ) (k : ℕ) → IsAt keywords k bytes ⊎ (IsAt keywords k bytes → ⊥)
 keyword_test bytes k = elim (cases_lt k (length keywords)) [
   | inl less ↦ elim (of_bool (bytes_eq (get_or keywords k []) bytes)) [
-      | inl e ↦ inl (less, (bytes_eq-Decides (get_or keywords k []) bytes).0 e)
-      | inr e ↦ inr (λ at. let yes : bytes_eq (get_or keywords k []) bytes ≡ true = (bytes_eq-Decides (get_or keywords k []) bytes).1 at.1 in absurd (cc))
-    ]
+    | inl e ↦ inl (less, (bytes_eq-Decides (get_or keywords k []) bytes).0 e)
+    | inr e ↦ inr (λ at. let yes : bytes_eq (get_or keywords k []) bytes ≡ true = (bytes_eq-Decides (get_or keywords k []) bytes).1 at.1 in absurd (cc))
+  ]
   | inr more ↦ inr (λ at. absurd (omega (arith, at.0)))
 ]
 
@@ -81,14 +80,14 @@ a_mantissa text =
     let whole = prefix_len is_digit text in
     elim (cases_lt whole (length text)) [
       | inl inside ↦ elim (cases_eq (get_or text whole 0) 46) [
-          | inl point ↦
-              let part = prefix_len is_digit (drop (whole + 1) text) in
-              elim (cases_lt 0 (whole + part)) [
-                | inl some ↦ (whole + 1 + part, mantissa_pointed text whole part refl inside point refl some)
-                | inr none ↦ (0, mantissa_none text (omega arith) (omega arith))
-              ]
-          | inr no_point ↦ (whole, mantissa_whole text no_point)
-        ]
+        | inl point ↦
+            let part = prefix_len is_digit (drop (whole + 1) text) in
+            elim (cases_lt 0 (whole + part)) [
+              | inl some ↦ (whole + 1 + part, mantissa_pointed text whole part refl inside point refl some)
+              | inr none ↦ (0, mantissa_none text (omega arith) (omega arith))
+            ]
+        | inr no_point ↦ (whole, mantissa_whole text no_point)
+      ]
       | inr past ↦ (whole, mantissa_whole text (λ point. absurd (omega (arith, point, get_or_past text whole 0 past))))
     ]
 
@@ -109,9 +108,9 @@ longer_than text i p none some = elim (cases_lt i (length text)) [
 an_exponent : (text : List ℕ) → (n : ℕ) × IsLongest IsExponent text n
 an_exponent text = elim (of_bool (is_exponent_mark (get_or text 0 0))) [
   | inl marked ↦ elim (of_bool (is_plus_or_minus (get_or text 1 0))) [
-      | inl signed ↦ power_front text 2 marked (record { signed = λ h. refl; plain = λ h. absurd (cc) }) (omega (arith, longer_than text 1 is_plus_or_minus refl signed))
-      | inr plain ↦ power_front text 1 marked (record { signed = λ h. absurd (cc); plain = λ h. refl }) (omega (arith, longer_than text 0 is_exponent_mark refl marked))
-    ]
+    | inl signed ↦ power_front text 2 marked (record { signed = λ h. refl; plain = λ h. absurd (cc) }) (omega (arith, longer_than text 1 is_plus_or_minus refl signed))
+    | inr plain ↦ power_front text 1 marked (record { signed = λ h. absurd (cc); plain = λ h. refl }) (omega (arith, longer_than text 0 is_exponent_mark refl marked))
+  ]
   | inr unmarked ↦ (0, exponent_none text unmarked)
 ]
 
@@ -128,9 +127,9 @@ number_front text begins =
     let l = a_literal text in
     elim (cases_lt 0 l.0) [
       | inl some ↦ elim (cases_lt 32 l.0) [
-          | inl over ↦ cause Long (inr (l.0, over, literal_match text l.0 begins l.1 some))
-          | inr short ↦ match (Lexeme Literal) l.0 (literal_match text l.0 begins l.1 some) short
-        ]
+        | inl over ↦ cause Long (inr (l.0, over, literal_match text l.0 begins l.1 some))
+        | inr short ↦ match (Lexeme Literal) l.0 (literal_match text l.0 begins l.1 some) short
+      ]
       | inr none ↦ let z : l.0 ≡ 0 = omega arith in let P : ℕ → Type 0 = λ n. IsLongest IsLiteral text n in cause Byte (no_literal text begins (subst P z l.1))
     ]
 
@@ -138,9 +137,9 @@ number_front text begins =
 closes_test : (text : List ℕ) (i : ℕ) → ((2 ≤ i) × ClosesAt text i) ⊎ ((2 ≤ i) × ClosesAt text i → ⊥)
 closes_test text i = elim (cases_lt 1 i) [
   | inl far ↦ elim (cases_eq (get_or text i 0) 42) [
-      | inl star ↦ elim (cases_eq (get_or text (i + 1) 0) 47) [ inl slash ↦ inl (far, (star, slash)) | inr other ↦ inr (λ h. other h.1.1) ]
-      | inr other ↦ inr (λ h. other h.1.0)
-    ]
+    | inl star ↦ elim (cases_eq (get_or text (i + 1) 0) 47) [ inl slash ↦ inl (far, (star, slash)) | inr other ↦ inr (λ h. other h.1.1) ]
+    | inr other ↦ inr (λ h. other h.1.0)
+  ]
   | inr near ↦ inr (λ h. absurd (omega (arith, h.0)))
 ]
 
@@ -178,9 +177,9 @@ slash_front : (text : List ℕ) → get_or text 0 0 ≡ 47 → AtFront text
 slash_front text first = elim (cases_eq (get_or text 1 0) 42) [
   | inl star ↦ block_front text first star
   | inr no_star ↦ elim (cases_eq (get_or text 1 0) 47) [
-      | inl slash ↦ line_front text first slash
-      | inr no_slash ↦ match (Lexeme (Sign 15)) 1 (division_match text first no_star no_slash) tt
-    ]
+    | inl slash ↦ line_front text first slash
+    | inr no_slash ↦ match (Lexeme (Sign 15)) 1 (division_match text first no_star no_slash) tt
+  ]
 ]
 
 -- ---- signs
@@ -201,13 +200,13 @@ longest_more words i text inside l =
     let word = get_or words i [] in
     elim (of_bool (bytes_eq word (take (length word) text))) [
       | inl same ↦ elim (cases_lt l.size (length word)) [
-          | inl longer ↦ record {
-              word = i;
-              size = length word;
-              best = best_takes words i text word l.word l.size l.best inside refl longer (begun_fits word text ((bytes_eq-Decides word (take (length word) text)).0 same)) same;
-            }
-          | inr shorter ↦ record { word = l.word; size = l.size; best = best_keeps words i text word l.word l.size l.best refl shorter }
-        ]
+        | inl longer ↦ record {
+          word = i;
+          size = length word;
+          best = best_takes words i text word l.word l.size l.best inside refl longer (begun_fits word text ((bytes_eq-Decides word (take (length word) text)).0 same)) same;
+        }
+        | inr shorter ↦ record { word = l.word; size = l.size; best = best_keeps words i text word l.word l.size l.best refl shorter }
+      ]
       | inr other ↦ record { word = l.word; size = l.size; best = best_differs words i text word l.word l.size l.best refl other }
     ]
 
@@ -231,15 +230,15 @@ pub at_front : (text : List ℕ) → 0 < length text → AtFront text
 at_front text some = elim (of_bool (is_blank (get_or text 0 0))) [
   | inl blank ↦ match Blank 1 (blank_match text blank) tt
   | inr no_blank ↦ elim (of_bool (is_letter (get_or text 0 0))) [
-      | inl letter ↦ word_front text letter
-      | inr no_letter ↦ elim (of_bool (begins_literal (get_or text 0 0))) [
-          | inl number ↦ number_front text number
-          | inr no_number ↦ elim (cases_eq (get_or text 0 0) 47) [
-              | inl slash ↦ slash_front text slash
-              | inr no_slash ↦ mark_front text (mark_class (get_or text 0 0) no_blank no_letter no_number no_slash) some
-            ]
-        ]
+    | inl letter ↦ word_front text letter
+    | inr no_letter ↦ elim (of_bool (begins_literal (get_or text 0 0))) [
+      | inl number ↦ number_front text number
+      | inr no_number ↦ elim (cases_eq (get_or text 0 0) 47) [
+        | inl slash ↦ slash_front text slash
+        | inr no_slash ↦ mark_front text (mark_class (get_or text 0 0) no_blank no_letter no_number no_slash) some
+      ]
     ]
+  ]
 ]
 
 -- a cut or a first fault

@@ -1,5 +1,5 @@
 -- The depth that is counted token by token is the number that its definition tells.
-use Rattle.std.proofs.Common.{◌≡◌, ℕ, zero, suc, ◌+◌, ◌-◌, ◌<◌, ◌≤◌, ◌⊎◌, ◌↔◌, ◌==◌, Bool, true, false, cond, IsTrue, List, [], ◌∷◌, ◌++◌, length, take, fold, refl, sym, ap, subst, ◌∙◌, inl, inr, arith, append_assoc, append-nil, length-append}
+use Rattle.std.proofs.Common.{◌≡◌, ℕ, zero, suc, ◌+◌, ◌-◌, ◌<◌, ◌⊎◌, ◌↔◌, ◌==◌, Bool, true, false, cond, IsTrue, List, [], ◌∷◌, ◌++◌, length, take, fold, refl, sym, ap, subst, ◌∙◌, inl, inr, arith, append_assoc, append-nil, length-append}
 use Rattle.std.specs.List.{AllByRecursion, count_by}
 use Rattle.std.proofs.lemmas.List.Sums.{fold-append, sum_by-cons}
 use Rattle.std.proofs.lemmas.Bool.{cases_lt, eqb-true}
@@ -7,7 +7,7 @@ use Rattle.hys_lex.specs.declared.token.Token.{Token}
 use Rattle.hys_lex.specs.declared.token.TokenKind.{TokenKind}
 use Rattle.hys_lex.specs.declared.token.TokenKind.TheVariants.{Name, Literal, Keyword, Sign}
 use Rattle.hys_lex.specs.declared.sign.TheConstants as sign
-use Rattle.hys_parse.specs.Depth.{opened, run_on, open_before, run_before, depth, is_opening, is_closing, is_prefix, IsClosedAmong, Unclosed, none, stays, ended, other, EndsIn, IsDepth}
+use Rattle.hys_parse.specs.Depth.{opened, run_on, depth, is_opening, is_closing, is_prefix, IsClosedAmong, Unclosed, none, stays, ended, other, EndsIn, IsDepth}
 
 -- ---- parentheses
 abbrev surplus_on : Bool → Bool → ℕ → ℕ
@@ -63,6 +63,7 @@ role_of t (Sign s) e = go (s == sign.OPEN_PARENTHESIS) (s == sign.CLOSE_PARENTHE
   where
     told : (n : ℕ) (a b : Bool) → (s == sign.OPEN_PARENTHESIS) ≡ a → (s == sign.CLOSE_PARENTHESIS) ≡ b → opened n t.kind ≡ cond a (n + 1) (cond b (n - 1) n)
     told n a b f g = ap (opened n) e ∙ ap (λ x. cond x (n + 1) (cond (s == sign.CLOSE_PARENTHESIS) (n - 1) n)) f ∙ ap (λ x. cond a (n + 1) (cond x (n - 1) n)) g
+
     go : (a b : Bool) → (s == sign.OPEN_PARENTHESIS) ≡ a → (s == sign.CLOSE_PARENTHESIS) ≡ b → Role t
     go true true f g = absurd (omega (arith, eqb-true s sign.OPEN_PARENTHESIS f, eqb-true s sign.CLOSE_PARENTHESIS g))
     go true false f g = opens (steps t true false (ap is_opening e ∙ f) (ap is_closing e ∙ g) (λ n. told n true false f g))
@@ -99,11 +100,11 @@ over_surplus (t ∷ ts) n less = elim (role t) [
       let o = over_at ts (n + 1) (over_surplus ts (n + 1) (omega (arith, less, s.surplus_is ts))) in
       over_by (t ∷ ts) n (suc o.0) (omega (arith, o.1, s.opening_is (take o.0 ts), s.closing_is (take o.0 ts)))
   | closes s ↦ elim (cases_lt 0 n) [
-      | inl some ↦
-          let o = over_at ts (n - 1) (over_surplus ts (n - 1) (omega (arith, less, s.surplus_is ts))) in
-          over_by (t ∷ ts) n (suc o.0) (omega (arith, o.1, s.opening_is (take o.0 ts), s.closing_is (take o.0 ts)))
-      | inr all ↦ over_by (t ∷ ts) n 1 (omega (arith, none_counted.0, none_counted.1, s.opening_is [], s.closing_is []))
-    ]
+    | inl some ↦
+        let o = over_at ts (n - 1) (over_surplus ts (n - 1) (omega (arith, less, s.surplus_is ts))) in
+        over_by (t ∷ ts) n (suc o.0) (omega (arith, o.1, s.opening_is (take o.0 ts), s.closing_is (take o.0 ts)))
+    | inr all ↦ over_by (t ∷ ts) n 1 (omega (arith, none_counted.0, none_counted.1, s.opening_is [], s.closing_is []))
+  ]
   | neither s ↦
       let o = over_at ts n (over_surplus ts n (omega (arith, less, s.surplus_is ts))) in
       over_by (t ∷ ts) n (suc o.0) (omega (arith, o.1, s.opening_is (take o.0 ts), s.closing_is (take o.0 ts)))
@@ -115,9 +116,9 @@ surplus_over [] n (suc j) less = absurd (omega (arith, none_counted.0, none_coun
 surplus_over (t ∷ ts) n (suc j) less = elim (role t) [
   | opens s ↦ omega (arith, s.surplus_is ts, surplus_over ts (n + 1) j (omega (arith, less, s.opening_is (take j ts), s.closing_is (take j ts))))
   | closes s ↦ elim (cases_lt 0 n) [
-      | inl some ↦ omega (arith, s.surplus_is ts, surplus_over ts (n - 1) j (omega (arith, less, s.opening_is (take j ts), s.closing_is (take j ts))))
-      | inr all ↦ omega (arith, s.surplus_is ts)
-    ]
+    | inl some ↦ omega (arith, s.surplus_is ts, surplus_over ts (n - 1) j (omega (arith, less, s.opening_is (take j ts), s.closing_is (take j ts))))
+    | inr all ↦ omega (arith, s.surplus_is ts)
+  ]
   | neither s ↦ omega (arith, s.surplus_is ts, surplus_over ts n j (omega (arith, less, s.opening_is (take j ts), s.closing_is (take j ts))))
 ]
 
@@ -167,9 +168,9 @@ unclosed_of : (ts : List Token) → (k : ℕ) × Unclosed ts k
 unclosed_of [] = (0, none)
 unclosed_of (t ∷ ts) = let d = unclosed_of ts in elim (role t) [
   | opens s ↦ elim (cases_lt 0 (surplus ts)) [
-      | inl some ↦ (d.0, ended s.opening (more_closed ts some) d.1)
-      | inr all ↦ (suc d.0, stays s.opening (λ closed. omega (arith, closed_more ts closed)) d.1)
-    ]
+    | inl some ↦ (d.0, ended s.opening (more_closed ts some) d.1)
+    | inr all ↦ (suc d.0, stays s.opening (λ closed. omega (arith, closed_more ts closed)) d.1)
+  ]
   | closes s ↦ (d.0, other s.opening d.1)
   | neither s ↦ (d.0, other s.opening d.1)
 ]
@@ -224,13 +225,13 @@ all_more (s ∷ run) t all is = (all.0, all_more run t all.1 is)
 one_more : (ts : List Token) (t : Token) (n : ℕ) → EndsIn ts n → EndsIn (ts ++ t ∷ []) (run_on n t.kind)
 one_more ts t n h = elim (runs t.kind) [
   | goes_on e f ↦ rw (f n) (record {
-      front = h.front;
-      run = h.run ++ t ∷ [];
-      joined = ap (λ x. x ++ t ∷ []) h.joined ∙ append_assoc h.front h.run (t ∷ []);
-      size = omega (arith, h.size, length-append h.run (t ∷ []));
-      all = all_more h.run t h.all e;
-      whole = h.whole;
-    })
+    front = h.front;
+    run = h.run ++ t ∷ [];
+    joined = ap (λ x. x ++ t ∷ []) h.joined ∙ append_assoc h.front h.run (t ∷ []);
+    size = omega (arith, h.size, length-append h.run (t ∷ []));
+    all = all_more h.run t h.all e;
+    whole = h.whole;
+  })
   | breaks e f ↦ rw (f n) (record { front = ts ++ t ∷ []; run = []; joined = sym (append-nil (ts ++ t ∷ [])); size = refl; all = tt; whole = inr (ts, t, refl, e) })
 ]
 

@@ -1,14 +1,14 @@
 -- The example sources are cut and read by computation.
-use Rattle.std.proofs.Common.{◌≡◌, ℕ, Bool, true, false, not, ◌&&◌, List, [], ◌∷◌, length, get_or, map, nat_le, ltb, inl, refl, sym, subst, ◌∙◌, ap, Ok, All, append-nil, arith}
+use Rattle.std.proofs.Common.{◌≡◌, ℕ, zero, suc, ◌<◌, ◌≤◌, inr, Err, Bool, true, not, ◌&&◌, List, [], length, get_or, map, nat_le, ltb, inl, refl, sym, subst, ◌∙◌, ap, Ok, All, append-nil, arith}
 use Rattle.std.specs.List.{list_all}
 use Rattle.std.specs.Str.{bytes_eq}
 use Rattle.std.proofs.lemmas.Slice.Eq.{bytes_eq-Decides}
-use Rattle.std.proofs.lemmas.Bool.{false≢true, leb-true}
+use Rattle.std.proofs.lemmas.Bool.{false≢true, leb-true, cases_lt}
 use Rattle.std.proofs.lemmas.List.Sums.{AllPass-from_list_all}
 use borrow.Author.Tests.{ltb-true}
 use Rattle.hys_lex.specs.Bytes.{is_letter, is_name_byte, is_digit}
 use Rattle.hys_lex.specs.Words.{keywords, signs, IsAt}
-use Rattle.hys_lex.specs.Pieces.{IsTokenText, IsLiteral}
+use Rattle.hys_lex.specs.Pieces.{IsLiteral}
 use Rattle.hys_lex.specs.Cut.{Cut}
 use Rattle.hys_lex.specs.Spaced.{Spelling, IsSpelled, spelling, spaced, spaced_tokens}
 use Rattle.hys_lex.specs.declared.token.Token.{Token}
@@ -20,8 +20,11 @@ use Rattle.hys_ast.specs.Places.{place_at, lexemes_of}
 use Rattle.hys_ast.specs.Grammar.{IsTreeOf}
 use Rattle.hys_parse.specs.Reading.{expect, after, joint, not_at, sign_at, cast_at, whole_at as group_whole, group_at, atom_at, signed_at, tail_at, binary_at, compare_at, negation_at, operand_at, reader, nested}
 use Rattle.hys_parse.specs.Sections.{expr_at, turns, all_turns, bounded_at, valued_at, plain_at, decl_at, name_turn, kind_at, line_at, line_turn, ite_at, braced_at, choice_at, formula_at, tolerance_at, guard_at, named_at, must_at, item_turn, decls_at, items_at, block_at, section_at, section_turn, part_at, source_at, whole_at}
-use Rattle.hys_parse.specs.Examples.{formulas_text, formulas_tokens, formulas_tree, numbers_text, numbers_tokens, numbers_tree, sections_text, sections_tokens, sections_tree}
+use Rattle.hys_parse.specs.Examples.{formulas_text, formulas_tokens, formulas_tree, numbers_text, numbers_tokens, numbers_tree, sections_text, sections_tokens, sections_tree, bracket_text, bracket_tokens}
+use Rattle.hys_parse.specs.Depth.{depth, IsShallow}
+use Rattle.hys_parse.specs.Cause.{IsUngrammatical}
 use Rattle.hys_parse.proofs.Whole.{whole_sound}
+use Rattle.hys_parse.proofs.OneFault.{stops_at}
 
 -- ---- the cut
 is_word : List ℕ → Bool
@@ -88,6 +91,10 @@ pub sections_cut : Cut sections_text sections_tokens
 unfolding sections_text sections_tokens fits is_word keywords signs stands_at
 sections_cut = cut_by sections_text sections_tokens refl refl refl
 
+pub bracket_cut : Cut bracket_text bracket_tokens
+unfolding bracket_text bracket_tokens fits is_word keywords signs stands_at
+bracket_cut = cut_by bracket_text bracket_tokens refl refl refl
+
 -- ---- the tree
 formulas_read : whole_at (lexemes_of formulas_text formulas_tokens) ≡ Ok formulas_tree
 unfolding formulas_text formulas_tokens formulas_tree place_at expect after joint not_at sign_at cast_at group_whole group_at atom_at signed_at tail_at binary_at compare_at negation_at operand_at reader nested expr_at turns all_turns bounded_at valued_at plain_at decl_at name_turn kind_at line_at line_turn ite_at braced_at choice_at formula_at tolerance_at guard_at named_at must_at item_turn decls_at items_at block_at section_at section_turn part_at source_at whole_at
@@ -109,3 +116,31 @@ numbers_is = whole_sound (lexemes_of numbers_text numbers_tokens) numbers_tree n
 
 pub sections_is : IsTreeOf sections_text sections_tokens sections_tree
 sections_is = whole_sound (lexemes_of sections_text sections_tokens) sections_tree sections_read
+
+-- ---- a fault
+-- whether no place before n is deeper than 64
+shallow_to : List Token → ℕ → Bool
+shallow_to tokens zero = true
+shallow_to tokens (suc n) = (nat_le (depth tokens n) 64 && shallow_to tokens n)
+
+all_shallow : (tokens : List Token) (n : ℕ) → shallow_to tokens n ≡ true → (k : ℕ) → k < n → depth tokens k ≤ 64
+unfolding shallow_to
+all_shallow tokens zero h k less = absurd (omega arith)
+all_shallow tokens (suc n) h k less =
+    let b = and_both (nat_le (depth tokens n) 64) (shallow_to tokens n) h in
+    elim (cases_lt k n) [
+      | inl below ↦ all_shallow tokens n b.1 k below
+      | inr here ↦ let same : n ≡ k = omega arith in subst (λ (i : ℕ). depth tokens i ≤ 64) same (leb-true (depth tokens n) 64 b.0)
+    ]
+
+bracket_shallow : IsShallow bracket_tokens
+unfolding bracket_tokens shallow_to
+bracket_shallow = all_shallow bracket_tokens (length bracket_tokens) refl
+
+bracket_stops : whole_at (lexemes_of bracket_text bracket_tokens) ≡ Err 7
+unfolding bracket_text bracket_tokens place_at expect after joint not_at sign_at cast_at group_whole group_at atom_at signed_at tail_at binary_at compare_at negation_at operand_at reader nested expr_at turns all_turns bounded_at valued_at plain_at decl_at name_turn kind_at line_at line_turn ite_at braced_at choice_at formula_at tolerance_at guard_at named_at must_at item_turn decls_at items_at block_at section_at section_turn part_at source_at whole_at
+bracket_stops = refl
+
+pub bracket_is : IsUngrammatical bracket_text bracket_tokens 17
+unfolding bracket_tokens
+bracket_is = stops_at bracket_text bracket_tokens 7 17 bracket_shallow bracket_stops refl

@@ -1,6 +1,6 @@
 -- Sources with all operators and signs of expressions and all sections: their texts, their tokens
 -- and their trees, with all places. Each text is one line.
-use Rattle.std.specs.Prelude.{ℕ, ◌+◌, true, false, List, [], ◌∷◌, Option, Some, None, codes}
+use Rattle.std.specs.Prelude.{ℕ, ◌+◌, true, false, List, [], ◌∷◌, Some, None, codes}
 use Rattle.hys_lex.specs.declared.token.Token.{Token}
 use Rattle.hys_lex.specs.declared.token.TokenKind.TheVariants as kinds
 use Rattle.hys_ast.specs.declared.place.Place.{Place}
@@ -68,17 +68,21 @@ formulas_tokens =
     sign 11 153 155 ∷ literal 156 157 ∷ sign 7 158 159 ∷ sign 1 160 161 ∷ sign 1 162 163 ∷ sign 1 164 165 ∷ []
 
 unfoldable pub formulas_tree : Source
-formulas_tree = record { system = codes "s"; decls = []; items =
-    item section.Logic (codes "d") (at 50) (tree.Plain (tree.Binary binary.Then
-        (tree.Binary binary.Or (tree.Binary binary.Or (tree.Binary binary.And (tree.Binary binary.And
-            (tree.Unary unary.Not (named (codes "a") (at 56)) (at 54)) (tree.Unary unary.Not (named (codes "b") (at 62)) (at 60)) (at 58))
-            (tree.Truth true (at 67)) (at 64)) (tree.Truth false (at 74)) (at 72)) (tree.Truth true (at 83)) (at 80))
-        (tree.Truth false (at 91)) (at 88)))
-    ∷ item section.Logic (codes "e") (at 99) (tree.Plain (tree.Binary binary.From (named (codes "a") (at 103)) (named (codes "b") (at 108)) (at 105)))
-    ∷ item section.Logic (codes "f") (at 112) (tree.Plain (tree.Binary binary.Iff (named (codes "a") (at 116)) (named (codes "b") (at 122)) (at 118)))
-    ∷ must (at 135) (tree.Binary binary.And (tree.Binary binary.Or (named (codes "a") (at 137)) (named (codes "b") (at 141)) (at 139)) (named (codes "c") (at 147)) (at 145))
-    ∷ must (at 151) (tree.Binary binary.Equal (named (codes "x") (at 151)) (numbered (codes "1") (at 156)) (at 153))
-    ∷ [] }
+formulas_tree = record {
+  system = codes "s";
+  decls = [];
+  items =
+      item section.Logic (codes "d") (at 50) (tree.Plain (tree.Binary binary.Then
+      (tree.Binary binary.Or (tree.Binary binary.Or (tree.Binary binary.And (tree.Binary binary.And
+      (tree.Unary unary.Not (named (codes "a") (at 56)) (at 54)) (tree.Unary unary.Not (named (codes "b") (at 62)) (at 60)) (at 58))
+      (tree.Truth true (at 67)) (at 64)) (tree.Truth false (at 74)) (at 72)) (tree.Truth true (at 83)) (at 80))
+      (tree.Truth false (at 91)) (at 88)))
+      ∷ item section.Logic (codes "e") (at 99) (tree.Plain (tree.Binary binary.From (named (codes "a") (at 103)) (named (codes "b") (at 108)) (at 105)))
+      ∷ item section.Logic (codes "f") (at 112) (tree.Plain (tree.Binary binary.Iff (named (codes "a") (at 116)) (named (codes "b") (at 122)) (at 118)))
+      ∷ must (at 135) (tree.Binary binary.And (tree.Binary binary.Or (named (codes "a") (at 137)) (named (codes "b") (at 141)) (at 139)) (named (codes "c") (at 147)) (at 145))
+      ∷ must (at 151) (tree.Binary binary.Equal (named (codes "x") (at 151)) (numbered (codes "1") (at 156)) (at 153))
+      ∷ [];
+}
 
 -- bounds, a value, guards, and choices with and without ELSE
 unfoldable pub numbers_text : List ℕ
@@ -102,19 +106,23 @@ numbers_tokens =
     sign 1 221 222 ∷ sign 7 223 224 ∷ sign 1 225 226 ∷ sign 1 227 228 ∷ sign 1 229 230 ∷ []
 
 unfoldable pub numbers_tree : Source
-numbers_tree = record { system = codes "t"; decls =
-    box (codes "x") (at 36) (tree.Unary unary.Neg (numbered (codes "1") (at 42)) (at 40)) (numbered (codes "2") (at 46))
-    ∷ parameter (codes "p") (at 71) (tree.Truth true (at 75))
-    ∷ []; items =
-    item section.Ad (codes "g") (at 108) (tree.Wide (tree.Binary binary.Most (named (codes "x") (at 112)) (numbered (codes "1") (at 117)) (at 114)) (numbered (codes "3") (at 121)))
-    ∷ item section.Ad (codes "h") (at 127) (tree.Plain (tree.Binary binary.Least (named (codes "x") (at 131)) (numbered (codes "4") (at 136)) (at 133)))
-    ∷ item section.Da (codes "z") (at 147) (tree.Choice (named (codes "a") (at 154))
-        (tree.Binary binary.Add (tree.Binary binary.Sub (named (codes "x") (at 161)) (numbered (codes "5") (at 165)) (at 163))
-            (tree.Binary binary.Mul (tree.Binary binary.Div (named (codes "y") (at 169)) (numbered (codes "6") (at 173)) (at 171)) (numbered (codes "7") (at 177)) (at 175)) (at 167))
-        (Some (tree.Unary unary.Plus (named (codes "x") (at 186)) (at 184))))
-    ∷ item section.Da (codes "w") (at 190) (tree.Choice (named (codes "a") (at 199))
-        (tree.Binary binary.Mul (tree.Cast (codes "a") (at 213)) (numbered (codes "8") (at 219)) (at 217)) None)
-    ∷ [] }
+numbers_tree = record {
+  system = codes "t";
+  decls =
+      box (codes "x") (at 36) (tree.Unary unary.Neg (numbered (codes "1") (at 42)) (at 40)) (numbered (codes "2") (at 46))
+      ∷ parameter (codes "p") (at 71) (tree.Truth true (at 75))
+      ∷ [];
+  items =
+      item section.Ad (codes "g") (at 108) (tree.Wide (tree.Binary binary.Most (named (codes "x") (at 112)) (numbered (codes "1") (at 117)) (at 114)) (numbered (codes "3") (at 121)))
+      ∷ item section.Ad (codes "h") (at 127) (tree.Plain (tree.Binary binary.Least (named (codes "x") (at 131)) (numbered (codes "4") (at 136)) (at 133)))
+      ∷ item section.Da (codes "z") (at 147) (tree.Choice (named (codes "a") (at 154))
+      (tree.Binary binary.Add (tree.Binary binary.Sub (named (codes "x") (at 161)) (numbered (codes "5") (at 165)) (at 163))
+      (tree.Binary binary.Mul (tree.Binary binary.Div (named (codes "y") (at 169)) (numbered (codes "6") (at 173)) (at 171)) (numbered (codes "7") (at 177)) (at 175)) (at 167))
+      (Some (tree.Unary unary.Plus (named (codes "x") (at 186)) (at 184))))
+      ∷ item section.Da (codes "w") (at 190) (tree.Choice (named (codes "a") (at 199))
+      (tree.Binary binary.Mul (tree.Cast (codes "a") (at 213)) (numbered (codes "8") (at 219)) (at 217)) None)
+      ∷ [];
+}
 
 -- sections in another order
 unfoldable pub sections_text : List ℕ
@@ -138,17 +146,32 @@ sections_tokens =
     sign 1 250 251 ∷ []
 
 unfoldable pub sections_tree : Source
-sections_tree = record { system = codes "u"; decls =
-    declared section.Parameter kind.Real (codes "p") (at 40)
-    ∷ declared section.Parameter kind.Real (codes "q") (at 44)
-    ∷ declared section.Output kind.Bool (codes "y") (at 64)
-    ∷ declared section.Input kind.Bool (codes "a") (at 83)
-    ∷ declared section.State kind.Bool (codes "b") (at 102)
-    ∷ box (codes "x") (at 111) (numbered (codes "0") (at 115)) (numbered (codes "1") (at 119))
-    ∷ declared section.Aux kind.Real (codes "z") (at 242)
-    ∷ []; items =
-    item section.OutputItem (codes "y") (at 155) (tree.Plain (named (codes "a") (at 159)))
-    ∷ item section.Continuous (codes "x") (at 178) (tree.Plain (named (codes "p") (at 182)))
-    ∷ item section.Automata (codes "b") (at 199) (tree.Plain (tree.Truth true (at 203)))
-    ∷ item section.Linear (codes "z") (at 221) (tree.Plain (numbered (codes "2") (at 225)))
-    ∷ [] }
+sections_tree = record {
+  system = codes "u";
+  decls =
+      declared section.Parameter kind.Real (codes "p") (at 40)
+      ∷ declared section.Parameter kind.Real (codes "q") (at 44)
+      ∷ declared section.Output kind.Bool (codes "y") (at 64)
+      ∷ declared section.Input kind.Bool (codes "a") (at 83)
+      ∷ declared section.State kind.Bool (codes "b") (at 102)
+      ∷ box (codes "x") (at 111) (numbered (codes "0") (at 115)) (numbered (codes "1") (at 119))
+      ∷ declared section.Aux kind.Real (codes "z") (at 242)
+      ∷ [];
+  items =
+      item section.OutputItem (codes "y") (at 155) (tree.Plain (named (codes "a") (at 159)))
+      ∷ item section.Continuous (codes "x") (at 178) (tree.Plain (named (codes "p") (at 182)))
+      ∷ item section.Automata (codes "b") (at 199) (tree.Plain (tree.Truth true (at 203)))
+      ∷ item section.Linear (codes "z") (at 221) (tree.Plain (numbered (codes "2") (at 225)))
+      ∷ [];
+}
+
+-- two expressions in the brackets of an item of AD
+unfoldable pub bracket_text : List ℕ
+bracket_text = codes "SYSTEM v { INTERFACE { } IMPLEMENTATION { AD { d = x >= 5 [ 1 , 2 ] ; } } } "
+
+unfoldable pub bracket_tokens : List Token
+bracket_tokens =
+    keyword 0 0 6 ∷ name 7 8 ∷ sign 0 9 10 ∷ keyword 1 11 20 ∷ sign 0 21 22 ∷ sign 1 23 24 ∷ keyword 2 25 39 ∷
+    sign 0 40 41 ∷ keyword 8 42 44 ∷ sign 0 45 46 ∷ name 47 48 ∷ sign 8 49 50 ∷ name 51 52 ∷ sign 10 53 55 ∷
+    literal 56 57 ∷ sign 4 58 59 ∷ literal 60 61 ∷ sign 6 62 63 ∷ literal 64 65 ∷ sign 5 66 67 ∷
+    sign 7 68 69 ∷ sign 1 70 71 ∷ sign 1 72 73 ∷ sign 1 74 75 ∷ []

@@ -46,19 +46,32 @@ Finds view (Some x) found = found ≡ Some (view x)
 
 abbrev pub same_kind : TokenKind → TokenKind → Bool
 same_kind token.Name token.Name = true
+same_kind token.Name token.Literal = false
+same_kind token.Name (token.Keyword b) = false
+same_kind token.Name (token.Sign b) = false
+same_kind token.Literal token.Name = false
 same_kind token.Literal token.Literal = true
+same_kind token.Literal (token.Keyword b) = false
+same_kind token.Literal (token.Sign b) = false
+same_kind (token.Keyword a) token.Name = false
+same_kind (token.Keyword a) token.Literal = false
 same_kind (token.Keyword a) (token.Keyword b) = a == b
+same_kind (token.Keyword a) (token.Sign b) = false
+same_kind (token.Sign a) token.Name = false
+same_kind (token.Sign a) token.Literal = false
+same_kind (token.Sign a) (token.Keyword b) = false
 same_kind (token.Sign a) (token.Sign b) = a == b
-same_kind _ _ = false
+
+abbrev pub level_number : Level → ℕ
+level_number level.Arrow = 0
+level_number level.Or = 1
+level_number level.And = 2
+level_number level.Compare = 3
+level_number level.Sum = 4
+level_number level.Term = 5
 
 abbrev pub same_level : Level → Level → Bool
-same_level level.Arrow level.Arrow = true
-same_level level.Or level.Or = true
-same_level level.And level.And = true
-same_level level.Compare level.Compare = true
-same_level level.Sum level.Sum = true
-same_level level.Term level.Term = true
-same_level _ _ = false
+same_level a b = level_number a == level_number b
 
 -- the first lexeme, which must be of this kind
 unfoldable pub expect : TokenKind → List Lexeme → Read Lexeme

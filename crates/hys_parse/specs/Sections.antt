@@ -37,8 +37,19 @@ abbrev pub decl_with : Section → Kind → Lexeme → Option Tree → Option Tr
 decl_with s k l low high value = record { section = s; kind = k; name = l.text; place = l.place; low = low; high = high; value = value }
 
 abbrev pub has_value : Section → Bool
+has_value section.State = false
+has_value section.Input = false
+has_value section.Output = false
 has_value section.Parameter = true
-has_value _ = false
+has_value section.Aux = false
+has_value section.Ad = false
+has_value section.Da = false
+has_value section.Logic = false
+has_value section.Linear = false
+has_value section.Automata = false
+has_value section.Continuous = false
+has_value section.OutputItem = false
+has_value section.Must = false
 
 unfoldable pub bounded_at : ℕ → Section → Kind → Lexeme → List Lexeme → Read Decl
 bounded_at room s k l ts = do
@@ -115,9 +126,19 @@ guard_at room ts = do
   choose (after (token.Sign sign.OPEN_BRACKET) e.1) (Ok (tree.Plain e.0, e.1)) (tolerance_at room e.0)
 
 abbrev pub shape_at : ℕ → Section → List Lexeme → Read Shape
+shape_at room section.State ts = formula_at room ts
+shape_at room section.Input ts = formula_at room ts
+shape_at room section.Output ts = formula_at room ts
+shape_at room section.Parameter ts = formula_at room ts
+shape_at room section.Aux ts = formula_at room ts
 shape_at room section.Ad ts = guard_at room ts
 shape_at room section.Da ts = choice_at room ts
-shape_at room _ ts = formula_at room ts
+shape_at room section.Logic ts = formula_at room ts
+shape_at room section.Linear ts = formula_at room ts
+shape_at room section.Automata ts = formula_at room ts
+shape_at room section.Continuous ts = formula_at room ts
+shape_at room section.OutputItem ts = formula_at room ts
+shape_at room section.Must ts = formula_at room ts
 
 unfoldable pub named_at : ℕ → Section → List Lexeme → Read Item
 named_at room s ts = do
@@ -135,8 +156,19 @@ must_at room (l ∷ ts) = do
   Ok (record { section = section.Must; name = None; place = l.place; shape = tree.Plain e.0 }, end.1)
 
 abbrev pub item_at : ℕ → Section → List Lexeme → Read Item
+item_at room section.State ts = named_at room section.State ts
+item_at room section.Input ts = named_at room section.Input ts
+item_at room section.Output ts = named_at room section.Output ts
+item_at room section.Parameter ts = named_at room section.Parameter ts
+item_at room section.Aux ts = named_at room section.Aux ts
+item_at room section.Ad ts = named_at room section.Ad ts
+item_at room section.Da ts = named_at room section.Da ts
+item_at room section.Logic ts = named_at room section.Logic ts
+item_at room section.Linear ts = named_at room section.Linear ts
+item_at room section.Automata ts = named_at room section.Automata ts
+item_at room section.Continuous ts = named_at room section.Continuous ts
+item_at room section.OutputItem ts = named_at room section.OutputItem ts
 item_at room section.Must ts = must_at room ts
-item_at room s ts = named_at room s ts
 
 -- an item behind those of before, or the brace that ends the section
 unfoldable pub item_turn : ℕ → Section → List Item → List Lexeme → Turn (List Item)
@@ -157,7 +189,14 @@ declares section.Input = true
 declares section.Output = true
 declares section.Parameter = true
 declares section.Aux = true
-declares _ = false
+declares section.Ad = false
+declares section.Da = false
+declares section.Logic = false
+declares section.Linear = false
+declares section.Automata = false
+declares section.Continuous = false
+declares section.OutputItem = false
+declares section.Must = false
 
 unfoldable pub decls_at : ℕ → Section → Draft → List Lexeme → Read Draft
 decls_at room s d ts = do

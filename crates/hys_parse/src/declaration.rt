@@ -6,9 +6,9 @@ ghost use Rattle.hys_parse.specs.Reading.{Gives, Finds};
 ghost use Rattle.hys_ast.specs.Grammar as grammar;
 ghost use Rattle.hys_parse.specs.Sections as reading;
 
-use crate::repeat::all_turns;
 use crate::ahead::{after, expect, split};
 use crate::descent::expression;
+use crate::repeat::all_turns;
 use crate::stop::Stop;
 use hys_ast::{Decl, Expr, Kind, Lexeme, Section};
 use hys_lex::{TokenKind, keyword, sign};

@@ -3,7 +3,8 @@
 
 ghost use Rattle.hys_lex.specs.Cut.{Cut};
 ghost use Rattle.hys_ast.specs.Grammar.{IsTreeOf};
-ghost use Rattle.hys_parse.specs.Examples.{formulas_text, formulas_tokens, formulas_tree, numbers_text, numbers_tokens, numbers_tree, sections_text, sections_tokens, sections_tree};
+ghost use Rattle.hys_parse.specs.Examples.{formulas_text, formulas_tokens, formulas_tree, numbers_text, numbers_tokens, numbers_tree, sections_text, sections_tokens, sections_tree, bracket_text, bracket_tokens};
+ghost use Rattle.hys_parse.specs.Cause.{IsUngrammatical};
 
 /// All operators of formulas, truth values in both spellings, and a MUST item that begins with a
 /// parenthesis.
@@ -22,4 +23,10 @@ pub fn numbers()
 pub fn sections()
     ensures cut { Cut sections_text sections_tokens }
     ensures tree { IsTreeOf sections_text sections_tokens sections_tree }
+{}
+
+/// A second expression in the brackets of an item of AD is a syntax fault at its comma.
+pub fn second_tolerance()
+    ensures cut { Cut bracket_text bracket_tokens }
+    ensures fault { IsUngrammatical bracket_text bracket_tokens 17 }
 {}

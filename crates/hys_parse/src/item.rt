@@ -5,9 +5,9 @@ ghost use Rattle.hys_ast.specs.Seen.{tree_of, shape_of, item_of};
 ghost use Rattle.hys_parse.specs.Reading.{Gives};
 ghost use Rattle.hys_parse.specs.Sections as reading;
 
-use crate::repeat::all_turns;
 use crate::ahead::{after, expect, split};
 use crate::descent::expression;
+use crate::repeat::all_turns;
 use crate::stop::Stop;
 use hys_ast::{Expr, Item, Lexeme, Section, Shape};
 use hys_lex::{TokenKind, keyword, sign};

@@ -95,7 +95,7 @@ fn formulas(rt: HostRuntime) -> Result<(), Fail> {
     Ok(())
 }
 
-const SOURCES: [(&str, &str); 5] = [
+const SOURCES: [(&str, &str); 6] = [
     (
         "SYSTEM e { INTERFACE { STATE { } } IMPLEMENTATION { MUST { } } }",
         "SYSTEM e { INTERFACE { } IMPLEMENTATION { } } ",
@@ -107,6 +107,10 @@ const SOURCES: [(&str, &str); 5] = [
     (
         "SYSTEM d { INTERFACE { INPUT { BOOL a; } } IMPLEMENTATION { DA { z = { IF a & a THEN 2 ELSE -1 }; w = IF a THEN 1; } AUX { REAL z, w; } } }",
         "SYSTEM d { INTERFACE { INPUT { BOOL a ; } } IMPLEMENTATION { AUX { REAL z ; REAL w ; } DA { z = IF a & a THEN 2 ELSE - 1 ; w = IF a THEN 1 ; } } } ",
+    ),
+    (
+        "SYSTEM g { INTERFACE { STATE { REAL x [0, 9]; } } IMPLEMENTATION { AD { d = (x >= 5) [(1/2)]; e = x <= (2); } AUX { BOOL d, e; } } }",
+        "SYSTEM g { INTERFACE { STATE { REAL x [ 0 , 9 ] ; } } IMPLEMENTATION { AUX { BOOL d ; BOOL e ; } AD { d = x >= 5 [ 1 / 2 ] ; e = x <= 2 ; } } } ",
     ),
     (
         "SYSTEM o { INTERFACE { OUTPUT { REAL y; BOOL z; } STATE { REAL x [-1, 1]; } } IMPLEMENTATION { OUTPUT { y = x; z = x <= 0; } LINEAR { } LOGIC { a = !z; } } }",

@@ -7,11 +7,11 @@ ghost use Rattle.hys_parse.specs.Reading.{Gives, Finds};
 ghost use Rattle.hys_parse.specs.declared.stop.Stop.TheVariants.{Memory};
 ghost use Rattle.hys_parse.specs.Sections as reading;
 
-use crate::repeat::all_turns;
 use crate::ahead::{expect, split};
 use crate::declaration::declarations;
 use crate::draft::{Draft, Part};
 use crate::item::items;
+use crate::repeat::all_turns;
 use crate::stop::Stop;
 use hys_ast::{Decl, Lexeme, Section, Source};
 use hys_base::List;

@@ -63,6 +63,14 @@ fn outcomes(rt: HostRuntime) -> Result<(), Fail> {
             "SYSTEM s { INTERFACE { } IMPLEMENTATION { } } }",
             Outcome::Fault(ParseFault::Syntax(10)),
         ),
+        (
+            "SYSTEM s { INTERFACE { } IMPLEMENTATION { AD { d = x >= 5 [1/2]; } } }",
+            Outcome::Tree,
+        ),
+        (
+            "SYSTEM s { INTERFACE { } IMPLEMENTATION { LOGIC { d = x >= 5 [1/2]; } } }",
+            Outcome::Fault(ParseFault::Syntax(15)),
+        ),
     ];
     for (text, expected) in rows {
         assert_eq!(rt; parsed(alloc, text.as_bytes()), expected, "{text}");
@@ -96,6 +104,11 @@ fn behind_the_fault(rt: HostRuntime) -> Result<(), Fail> {
             "SYSTEM s { INTERFACE { } IMPLEMENTATION { MUST { (REAL 1 ",
             ") >= 0; } } }",
             12,
+        ),
+        (
+            "SYSTEM s { INTERFACE { } IMPLEMENTATION { AD { d = x >= 5 [1, ",
+            "2]; } } }",
+            17,
         ),
         (
             "SYSTEM s { INTERFACE { } IMPLEMENTATION { } } } ",

@@ -9,7 +9,7 @@ use Rattle.hys_ast.proofs.print_expr.left_spine.Goals as goal
 pub loop-first-preserved : goal.loop-first-preserved
 loop-first-preserved c =
     let needed : c.is_loose.result ≡ is_loose (left_strength (level_of c.in-Binary.op)) (tree_of c.in-Binary.left.value) =
-    c.is_loose.ensures.value ∙ ap₂ is_loose (c.left_strength.ensures ∙ ap left_strength c.level.ensures) (ap tree_of c.deref.ensures) in
+    c.is_loose.ensures ∙ ap₂ is_loose (c.left_strength.ensures ∙ ap left_strength c.level.ensures) (ap tree_of c.deref.ensures) in
     let put : (rest : List Spelling) → c.begin_group.new.out.items ++ spaced rest ≡ c.loop-first.out.items ++ spaced (open_words (is_loose (left_strength (level_of c.in-Binary.op)) (tree_of c.in-Binary.left.value)) rest) =
     λ rest. c.in_ok-begin_group.ensures rest ∙ ap (λ t. c.loop-first.out.items ++ spaced (open_words t rest)) needed in
     rw c.deref-first.ensures

@@ -12,4 +12,4 @@ returns c =
     let text : spaced (source_words (source_of c.args.source.now) []) ≡ c.whole.new.out.items =
     sym (sym (append-nil c.whole.new.out.items) ∙ c.in_ok-whole.ensures [] ∙ ap (λ (xs : List ℕ). xs ++ spaced (source_words (source_of c.args.source.now) [])) c.new-out.ensures.items) in
     let P : List ℕ → Type 0 = λ t. PrintOf t (source_of c.args.source.now) in
-    subst P text (printed (source_of c.args.source.now) c.requires)
+    record { print = subst P text (printed (source_of c.args.source.now) c.requires); text = sym text }
