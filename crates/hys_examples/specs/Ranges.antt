@@ -15,10 +15,9 @@ use Rattle.hys_lin.specs.declared.lost.Lost.{Lost}
 use Rattle.hys_lin.specs.Operations.{summing}
 use Rattle.hys_lin.specs.Ranges.{end_at, end_of}
 use Rattle.hys_lin.specs.Scaled.{kept}
-use Rattle.hys_ast.specs.declared.source.Section.{Section}
-use Rattle.hys_ast.specs.declared.source.Section.TheVariants as section
-use Rattle.hys_ast.specs.Tree.{Tree, Shape, Item, Source}
-use Rattle.hys_ast.specs.Tree as tree
+use Rattle.hys_ast.specs.Tree.{Tree, Item, Source}
+use Rattle.hys_meaning.specs.Bodies.{Body}
+use Rattle.hys_meaning.specs.Bodies as body
 use Rattle.hys_meaning.specs.Names.{Name, names, texts, is_auxiliary}
 use Rattle.hys_meaning.specs.Forms.{Form, form, guard_form, number_form}
 use Rattle.hys_meaning.specs.Typed.{defines}
@@ -79,12 +78,16 @@ else_form ns None = number_form (whole 0)
 
 -- the forms whose ranges an item asks for: its guard number, its LINEAR form, or its THEN form and
 -- then its ELSE form
-abbrev pub ranged : List Name → Section → Shape → List Form
-ranged ns section.Ad (tree.Plain e) = guard_form ns e ∷ []
-ranged ns section.Ad (tree.Wide a b) = guard_form ns a ∷ []
-ranged ns section.Linear (tree.Plain e) = form ns e ∷ []
-ranged ns section.Da (tree.Choice a b c) = form ns b ∷ else_form ns c ∷ []
-ranged ns _ _ = []
+abbrev pub ranged : List Name → Body → List Form
+ranged ns (body.Guard e t) = guard_form ns e ∷ []
+ranged ns (body.Choice a b c) = form ns b ∷ else_form ns c ∷ []
+ranged ns (body.Logic e) = []
+ranged ns (body.Linear e) = form ns e ∷ []
+ranged ns (body.NextBool e) = []
+ranged ns (body.NextReal e) = []
+ranged ns (body.Output e) = []
+ranged ns (body.Must e) = []
+ranged ns body.Nothing = []
 
 abbrev pub by_order : Ordering → Number → Number → Number
 by_order Less a b = a
@@ -101,11 +104,21 @@ greatest a b = by_order (number_cmp a b) b a
 abbrev pub hull : Interval → Interval → Interval
 hull i j = record { low = least i.low j.low; high = greatest i.high j.high }
 
--- the interval of the name that an item of the section defines; a Boolean one's is 0 to 1
-abbrev pub defined_interval : List Name → Section → Shape → Interval
-defined_interval ns section.Linear (tree.Plain e) = interval_of ns (form ns e)
-defined_interval ns section.Da (tree.Choice a b c) = hull (interval_of ns (form ns b)) (interval_of ns (else_form ns c))
-defined_interval ns _ _ = record { low = whole 0; high = whole 1 }
+-- the interval of a Boolean name
+abbrev pub bits : Interval
+bits = record { low = whole 0; high = whole 1 }
+
+-- the interval of the auxiliary that an item defines; a Boolean one's is 0 to 1
+abbrev pub defined_interval : List Name → Body → Interval
+defined_interval ns (body.Guard e t) = bits
+defined_interval ns (body.Choice a b c) = hull (interval_of ns (form ns b)) (interval_of ns (else_form ns c))
+defined_interval ns (body.Logic e) = bits
+defined_interval ns (body.Linear e) = interval_of ns (form ns e)
+defined_interval ns (body.NextBool e) = bits
+defined_interval ns (body.NextReal e) = bits
+defined_interval ns (body.Output e) = bits
+defined_interval ns (body.Must e) = bits
+defined_interval ns body.Nothing = bits
 
 -- ---- along the order
 -- the item that defines the name
@@ -117,7 +130,7 @@ boxed i n = record { text = n.text; section = n.section; kind = n.kind; low = i.
 
 -- the names, of which one has the interval that its item gives it
 abbrev pub with_interval : List ℕ → Option Item → List Name → List Name
-with_interval n (Some i) ns = map (λ m. cond (bytes_eq n m.text) (boxed (defined_interval ns i.section i.shape) m) m) ns
+with_interval n (Some i) ns = map (λ m. cond (bytes_eq n m.text) (boxed (defined_interval ns (body.body i)) m) m) ns
 with_interval n None ns = ns
 
 -- the names with their intervals, when those of the listed auxiliaries are found one after the other
@@ -126,7 +139,7 @@ found s [] ns = ns
 found s (n ∷ order) ns = found s order (with_interval n (definition s n) ns)
 
 abbrev pub item_numbers : List Name → Option Item → List Computed
-item_numbers ns (Some i) = all_at i.place (flat_map (ranging ns) (ranged ns i.section i.shape))
+item_numbers ns (Some i) = all_at i.place (flat_map (ranging ns) (ranged ns (body.body i)))
 item_numbers ns None = []
 
 abbrev pub numbers_along : Source → List (List ℕ) → List Name → List Computed

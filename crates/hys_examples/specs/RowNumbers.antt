@@ -10,15 +10,16 @@ use Rattle.hys_number.specs.Ops.{◌-ₙ◌, neg, whole}
 use Rattle.hys_lin.specs.declared.form.Affine.{Affine}
 use Rattle.hys_lin.specs.declared.lost.Lost.{Lost}
 use Rattle.hys_guard.specs.Numbers.{guard_numbers, choice_numbers}
-use Rattle.hys_ast.specs.declared.source.Section.{Section}
-use Rattle.hys_ast.specs.declared.source.Section.TheVariants as section
-use Rattle.hys_ast.specs.Tree.{Tree, Shape, Item, Source}
+use Rattle.hys_ast.specs.Tree.{Tree, Item, Source}
 use Rattle.hys_ast.specs.Tree as tree
 use Rattle.hys_ast.specs.Nodes.{shape_expressions, items_expressions}
 use Rattle.hys_lin.specs.Bits.{bit, is_one}
+use Rattle.hys_meaning.specs.Bodies.{Body}
+use Rattle.hys_meaning.specs.Bodies as body
+use Rattle.hys_meaning.specs.Steps.{tolerance_of}
 use Rattle.hys_meaning.specs.Names.{Name, names, look, texts, is_state, is_input, is_parameter, is_auxiliary}
 use Rattle.hys_meaning.specs.Forms.{Form, form, guard_form}
-use Rattle.hys_meaning.specs.Typed.{is_bool, is_real, is_connective}
+use Rattle.hys_meaning.specs.Typed.{is_bool, is_real, is_connective, settled}
 use Rattle.hys_meaning.specs.Folding.{Computed, all_at}
 use Rattle.hys_examples.specs.Ranges.{terms_from, interval_of, else_form, found}
 
@@ -93,19 +94,26 @@ literal_of cs ns k (tree.Name n p) = name_literal cs n (look ns n)
 literal_of cs ns k (tree.Truth b p) = fixed b
 literal_of cs ns k (tree.Unary op a p) = opposite (literal_of cs ns k a)
 literal_of cs ns k (tree.Binary op a b p) = column_by (is_fresh (k + (connectives a + connectives b))) cs
-literal_of cs ns k _ = fixed false
+literal_of cs ns k (tree.Number text p) = fixed false
+literal_of cs ns k (tree.Cast n p) = fixed false
 
 -- ---- the numbers
 -- Of a guard, by its number over the columns and the interval of it; of a choice, by its literal
 -- and its two forms with their intervals. The names have the intervals that were found.
-abbrev pub row_operations : Number → List Column → List Name → ℕ → Section → Shape → List Lost
-row_operations tolerance cs ns k section.Ad (tree.Plain e) = guard_numbers (over_columns cs (guard_form ns e)) (interval_of ns (guard_form ns e)) tolerance
-row_operations tolerance cs ns k section.Da (tree.Choice a b c) = choice_numbers (literal_of cs ns k a) (over_columns cs (form ns b)) (interval_of ns (form ns b)) (over_columns cs (else_form ns c)) (interval_of ns (else_form ns c))
-row_operations tolerance cs ns k _ _ = []
+abbrev pub row_operations : Number → List Column → List Name → ℕ → Body → List Lost
+row_operations tolerance cs ns k (body.Guard e t) = guard_numbers (over_columns cs (guard_form ns e)) (interval_of ns (guard_form ns e)) (tolerance_of tolerance (settled ns) t)
+row_operations tolerance cs ns k (body.Choice a b c) = choice_numbers (literal_of cs ns k a) (over_columns cs (form ns b)) (interval_of ns (form ns b)) (over_columns cs (else_form ns c)) (interval_of ns (else_form ns c))
+row_operations tolerance cs ns k (body.Logic e) = []
+row_operations tolerance cs ns k (body.Linear e) = []
+row_operations tolerance cs ns k (body.NextBool e) = []
+row_operations tolerance cs ns k (body.NextReal e) = []
+row_operations tolerance cs ns k (body.Output e) = []
+row_operations tolerance cs ns k (body.Must e) = []
+row_operations tolerance cs ns k body.Nothing = []
 
 abbrev pub numbers_from : Number → List Column → List Name → ℕ → List Item → List Computed
 numbers_from tolerance cs ns k [] = []
-numbers_from tolerance cs ns k (i ∷ is) = all_at i.place (row_operations tolerance cs ns k i.section i.shape) ++ numbers_from tolerance cs ns (k + connectives_in (shape_expressions i.shape)) is
+numbers_from tolerance cs ns k (i ∷ is) = all_at i.place (row_operations tolerance cs ns k (body.body i)) ++ numbers_from tolerance cs ns (k + connectives_in (shape_expressions i.shape)) is
 
 -- the numbers of the rows, where the auxiliaries are defined in this order
 abbrev pub row_numbers : Number → Source → List (List ℕ) → List Computed
