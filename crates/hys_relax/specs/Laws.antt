@@ -1,0 +1,61 @@
+-- What the laws of this crate say.
+use Rattle.std.specs.Prelude.{◌≡◌, ℕ, List, [], ◌∷◌, length, take, true, false}
+use Rattle.hys_number.specs.Number.{Number}
+use Rattle.hys_number.specs.Ops.{◌≤ₙ◌, ◌<ₙ◌, whole, neg}
+use Rattle.hys_lin.specs.Sums.{at, value}
+use Rattle.hys_lin.specs.declared.problem.Problem.{Problem}
+use Rattle.hys_relax.specs.Node.{IsProblem, StackedSolution, IsNode, Boxes, node_boxes, RelaxedPoint, Agrees}
+use Rattle.hys_relax.specs.LinearProgram.{linear_program}
+use Rattle.hys_relax.specs.Bound.{multiplier, AreMultipliers, AreLawful, IsLeastOver, lagrangian, bound_of, node_bound, plain_bound, costless}
+use Rattle.hys_relax.specs.BoundSum.{summed_coefficient, summed_constant, summed_ends, BoundFits}
+use Rattle.hys_relax.specs.Worked.{worked, fix, on_equation, on_both, on_demand}
+use Rattle.hys_relax.specs.declared.fixing.Fixing.{Fixing}
+
+-- the bound at a node is the least value, over its boxes, of the cost with the weighted rows
+abbrev pub BoundIsLeast : Type 0
+BoundIsLeast = (p : Problem) (fixings : List Fixing) (pairs : List (ℕ × Number)) → IsProblem p →
+    IsLeastOver (length p.boxes) (node_boxes p fixings) (lagrangian (linear_program p) (multiplier pairs)) (node_bound p fixings pairs)
+
+-- no relaxed point of a node costs less than the bound of lawful multipliers there
+abbrev pub WeakDuality : Type 0
+WeakDuality = (p : Problem) (fixings : List Fixing) (pairs : List (ℕ × Number)) (v : List Number) → IsProblem p → AreLawful p pairs →
+    RelaxedPoint p fixings v → node_bound p fixings pairs ≤ₙ value p.cost (at v)
+
+-- lawful multipliers whose bound with cost 0 is above 0 show that a node has no relaxed point
+abbrev pub NoRelaxedPoint : Type 0
+NoRelaxedPoint = (p : Problem) (fixings : List Fixing) (pairs : List (ℕ × Number)) (v : List Number) → IsProblem p → AreLawful p pairs →
+    whole 0 <ₙ node_bound (costless p) fixings pairs → RelaxedPoint p fixings v → ⊥
+
+-- the bound over the boxes of the first k fixings is at most that over the node's
+abbrev pub BoundOfPrefix : Type 0
+BoundOfPrefix = (p : Problem) (k : ℕ) (fixings : List Fixing) (pairs : List (ℕ × Number)) → IsProblem p → IsNode p fixings →
+    node_bound p (take k fixings) pairs ≤ₙ node_bound p fixings pairs
+
+-- no solution costs less than the plain bound
+abbrev pub PlainBound : Type 0
+PlainBound = (p : Problem) (v : List Number) → IsProblem p → StackedSolution p v → plain_bound p ≤ₙ value p.cost (at v)
+
+-- a solution that agrees with the fixings is a relaxed point of their node
+abbrev pub SolutionRelaxes : Type 0
+SolutionRelaxes = (p : Problem) (fixings : List Fixing) (v : List Number) → StackedSolution p v → Agrees fixings (at v) → RelaxedPoint p fixings v
+
+-- what the operations of a bound's sum come to is the bound
+abbrev pub SumIsBound : Type 0
+SumIsBound = (p : Problem) (B : Boxes) (pairs : List (ℕ × Number)) → AreMultipliers pairs → AreLawful p pairs →
+    summed_ends (summed_constant p pairs) (summed_coefficient p pairs) B (length p.boxes) ≡ bound_of (linear_program p) B (multiplier pairs)
+
+-- bounds of the worked problem, by multipliers and node
+pub record WorkedBounds : Type 0 where
+  pub is_problem : IsProblem worked
+  pub plain : plain_bound worked ≡ neg (whole 10)
+  -- at the root
+  pub root : node_bound worked [] on_both ≡ neg (whole 4)
+  pub root_by_equation : node_bound worked [] on_equation ≡ neg (whole 5)
+  -- with the first input at 0, and at 1
+  pub without : node_bound worked (fix 1 false ∷ []) on_equation ≡ neg (whole 2)
+  pub with_first : node_bound worked (fix 1 true ∷ []) on_both ≡ neg (whole 4)
+  -- with the first at 1 and the second at 0
+  pub one_alone : node_bound worked (fix 1 true ∷ fix 2 false ∷ []) on_equation ≡ neg (whole 3)
+  -- with both at 1
+  pub both : node_bound (costless worked) (fix 1 true ∷ fix 2 true ∷ []) on_demand ≡ whole 1
+  pub fits : BoundFits worked (fix 1 true ∷ fix 2 false ∷ []) on_equation
