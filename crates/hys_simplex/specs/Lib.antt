@@ -1,0 +1,5 @@
+pub mod Tableau
+pub mod Status
+pub mod Rule
+pub mod Path
+pub mod Unfit

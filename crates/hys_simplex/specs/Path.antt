@@ -1,0 +1,27 @@
+-- Ruled paths of pivots at a node.
+use Rattle.std.specs.Prelude.{◌≡◌, ℕ, ◌<◌, ◌≤◌, List, [], ◌∷◌, length, take}
+use Rattle.hys_lin.specs.declared.problem.Problem.{Problem}
+use Rattle.hys_relax.specs.Node.{Boxes, node_boxes}
+use Rattle.hys_relax.specs.LinearProgram.{LinearProgram, linear_program}
+use Rattle.hys_relax.specs.declared.fixing.Fixing.{Fixing}
+use Rattle.hys_simplex.specs.Tableau.{Tableau, start, pivot, after}
+use Rattle.hys_simplex.specs.Rule.{IsRuled}
+
+-- each pivot is the rule's over the boxes of some level from `from` to `top`, and never over those of a level above the
+-- one whose boxes counted for the pivot before
+abbrev pub RulesPath : LinearProgram → (ℕ → Boxes) → (from top : ℕ) → Tableau → List (ℕ × ℕ) → Type 0
+RulesPath P level from top T [] = Unit {0}
+RulesPath P level from top T (p ∷ ps) =
+    (k : ℕ) × (from ≤ k) × (k ≤ top) × IsRuled P (level k) T p.0 p.1 × RulesPath P level k top (pivot T p.0 p.1) ps
+
+-- the boxes of the nodes above a node, by their depth
+abbrev pub levels : Problem → List Fixing → ℕ → Boxes
+levels p fixings k = node_boxes p (take k fixings)
+
+-- the path is ruled at the node, from the slack basis on
+abbrev pub IsPathAt : Problem → List Fixing → List (ℕ × ℕ) → Type 0
+IsPathAt p fixings path = RulesPath (linear_program p) (levels p fixings) 0 (length fixings) (start (linear_program p)) path
+
+-- the tableau of a problem after a path
+abbrev pub tableau_after : Problem → List (ℕ × ℕ) → Tableau
+tableau_after p path = after (start (linear_program p)) path

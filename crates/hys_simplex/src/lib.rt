@@ -1,0 +1,2 @@
+//! The theory of the ruled dual simplex method with bounds, over exact numbers.
+#![tactic(auto)]
