@@ -1,0 +1,15 @@
+pub mod Same
+pub mod Relations
+pub mod Pivots
+pub mod Rows
+pub mod Places
+pub mod Status
+pub mod Lex
+pub mod Edges
+pub mod Rising
+pub mod Ruled
+pub mod Ratios
+pub mod Measure
+pub mod Chain
+pub mod Paths
+pub mod Never
