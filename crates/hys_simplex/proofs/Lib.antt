@@ -13,3 +13,5 @@ pub mod Measure
 pub mod Chain
 pub mod Paths
 pub mod Never
+pub mod Ranges
+pub mod Rules

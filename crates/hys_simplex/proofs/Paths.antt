@@ -42,7 +42,7 @@ values_outside P T o x j l = ap₂ ◌+ₙ◌
         ∙ by_ring ((T.cell i T.columns -ₙ sum_to T.columns (λ j. T.cell i j *ₙ x j)) ∷ []) (k 0 ⊗ v 0) (k 0) refl))
     ∙ by_ring (x j ∷ []) (k 1 ⊗ v 0 ⊕ k 0) (v 0) refl
 
-values_basic : (P : LinearProgram) (T : Tableau) → IsOf P T → (x : ℕ → Number) (i : ℕ) → i ≤ P.rows → values T x (T.basic i) ≡ T.cell i T.columns -ₙ sum_to T.columns (λ j. T.cell i j *ₙ x j)
+pub values_basic : (P : LinearProgram) (T : Tableau) → IsOf P T → (x : ℕ → Number) (i : ℕ) → i ≤ P.rows → values T x (T.basic i) ≡ T.cell i T.columns -ₙ sum_to T.columns (λ j. T.cell i j *ₙ x j)
 values_basic P T o x i l = ap₂ ◌+ₙ◌
       (sum_zero T.columns _ (λ q m. ap (λ z. z *ₙ x q) (unit_no (T.outside q) (T.basic i) (o.placed.apart i q l (rw (← o.wide) m))) ∙ by_ring (x q ∷ []) (k 0 ⊗ v 0) (k 0) refl))
       (sum_single (suc T.rows) i (λ q. unit (T.basic q) (T.basic i) *ₙ rest q) (omega (arith, o.tall)) (λ q m d. ap (λ z. z *ₙ rest q) (unit_no (T.basic q) (T.basic i) (λ e. d (o.placed.basic_once q i (omega (arith, o.tall)) l (sym e)))) ∙ by_ring (rest q ∷ []) (k 0 ⊗ v 0) (k 0) refl)
