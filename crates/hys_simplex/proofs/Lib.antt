@@ -15,3 +15,6 @@ pub mod Paths
 pub mod Never
 pub mod Ranges
 pub mod Rules
+pub mod Runs
+pub mod Pairs
+pub mod Stranded

@@ -1,5 +1,5 @@
 -- Ruled paths of pivots at a node.
-use Rattle.std.specs.Prelude.{◌≡◌, ℕ, ◌<◌, ◌≤◌, List, [], ◌∷◌, length, take}
+use Rattle.std.specs.Prelude.{◌≡◌, ℕ, ◌+◌, ◌*◌, ◌^◌, ◌<◌, ◌≤◌, List, [], ◌∷◌, length, take}
 use Rattle.hys_lin.specs.declared.problem.Problem.{Problem}
 use Rattle.hys_relax.specs.Node.{Boxes, node_boxes}
 use Rattle.hys_relax.specs.LinearProgram.{LinearProgram, linear_program}
@@ -25,3 +25,12 @@ IsPathAt p fixings path = RulesPath (linear_program p) (levels p fixings) 0 (len
 -- the tableau of a problem after a path
 abbrev pub tableau_after : Problem → List (ℕ × ℕ) → Tableau
 tableau_after p path = after (start (linear_program p)) path
+
+-- each pivot is the rule's over the same boxes
+abbrev pub IsRun : LinearProgram → Boxes → Tableau → List (ℕ × ℕ) → Type 0
+IsRun P B T [] = Unit {0}
+IsRun P B T (p ∷ ps) = IsRuled P B T p.0 p.1 × IsRun P B (pivot T p.0 p.1) ps
+
+-- no more statuses than this are there: of each row its basic variable, of each column its variable and its end
+abbrev pub status_count : LinearProgram → ℕ
+status_count P = (2 * (P.columns + P.rows) + 2) ^ (P.rows + P.columns)
