@@ -17,9 +17,8 @@ use Rattle.hys_lin.specs.declared.form.Row.{Row}
 use Rattle.hys_lin.specs.declared.problem.Problem.{Problem}
 use Rattle.hys_relax.specs.Node.{IsProblem}
 use Rattle.hys_relax.specs.LinearProgram.{linear_program, row_at, row_sum, cost_of, Meets}
-use Rattle.hys_relax.specs.Bound.{SignHolds, multiplier, AreLawful, costless}
+use Rattle.hys_relax.specs.Bound.{SignHolds, IsSigned, multiplier, AreLawful, costless}
 use Rattle.hys_relax.proofs.Sums.{sum_apart, sum_zero}
-use Rattle.hys_relax.proofs.Duality.{IsSigned}
 
 pub all_at : {X : Type 0} (P : X → Type 0) (xs : List X) (i : ℕ) (d : X) → AllByRecursion P xs → i < length xs → P (get_or xs i d)
 all_at P [] i d h l = absurd (omega arith)

@@ -14,12 +14,8 @@ use Rattle.hys_lin.specs.Ranges.{end_by_sign}
 use Rattle.hys_lin.specs.declared.form.Interval.{Interval}
 use Rattle.hys_relax.specs.Node.{Boxes, Inside}
 use Rattle.hys_relax.specs.LinearProgram.{LinearProgram, row_sum, cost_of, Meets}
-use Rattle.hys_relax.specs.Bound.{SignHolds, lagrangian, IsLeastOver, reduced_cost, reduced_constant, lesser_end, least_product, bound_of}
+use Rattle.hys_relax.specs.Bound.{SignHolds, lagrangian, IsLeastOver, reduced_cost, reduced_constant, lesser_end, least_product, bound_of, IsSigned}
 use Rattle.hys_relax.proofs.Sums.{sum_linear, sum_zero, sum_swap}
-
--- on each row that is no equation the multiplier is at least 0
-abbrev pub IsSigned : LinearProgram → (ℕ → Number) → Type 0
-IsSigned P y = (i : ℕ) → i < P.rows → SignHolds (P.equation i) (y i)
 
 pub least_below : (d : Number) (b : Interval) (x : Number) → Within b x → least_product d b ≤ₙ d *ₙ x
 least_below d b x h = go d.num refl

@@ -33,6 +33,10 @@ abbrev pub SignHolds : Bool → Number → Type 0
 SignHolds true y = Unit {0}
 SignHolds false y = whole 0 ≤ₙ y
 
+-- on each row that is no equation the multiplier is at least 0
+abbrev pub IsSigned : LinearProgram → (ℕ → Number) → Type 0
+IsSigned P y = (i : ℕ) → i < P.rows → SignHolds (P.equation i) (y i)
+
 -- the row of the pair is there, and the sign holds
 abbrev pub IsLawfulPair : Problem → ℕ × Number → Type 0
 IsLawfulPair p pair = (pair.0 < length p.rows) × SignHolds (row_at p pair.0).eq pair.1

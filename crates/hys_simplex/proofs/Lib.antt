@@ -18,3 +18,4 @@ pub mod Rules
 pub mod Runs
 pub mod Pairs
 pub mod Stranded
+pub mod NodePaths

@@ -8,12 +8,12 @@ use Rattle.hys_number.proofs.Order.{le_total, le_antisymm}
 use Rattle.hys_number.proofs.Scale.{overs, common1, common1_of}
 use Rattle.hys_number.proofs.Sums.{sum_to-same, sum_to-mul}
 use Rattle.hys_relax.proofs.Sums.{sum_zero, sum_apart, sum_single}
-use Rattle.hys_relax.proofs.Duality.{IsSigned, regrouped}
+use Rattle.hys_relax.proofs.Duality.{regrouped}
 use Rattle.hys_relax.specs.LinearProgram.{LinearProgram, row_sum, cost_of, costless_program}
 use Rattle.hys_lin.specs.declared.form.Interval.{Interval}
 use Rattle.hys_lin.specs.Ranges.{end_by_sign}
 use Rattle.hys_relax.specs.Node.{Boxes}
-use Rattle.hys_relax.specs.Bound.{SignHolds, reduced_cost, reduced_constant, least_product, bound_of}
+use Rattle.hys_relax.specs.Bound.{IsSigned, SignHolds, reduced_cost, reduced_constant, least_product, bound_of}
 use Rattle.hys_simplex.specs.Tableau.{Tableau, unit, coef, IsMix, IsOf, row_multiplier}
 use Rattle.hys_simplex.specs.Status.{raised, IsDualFeasible}
 use Rattle.hys_simplex.proofs.Relations.{StandsAtEnds, column, slack, NearEnd, low_end, high_end, slack_end, IsOrdered, NoneEnters}

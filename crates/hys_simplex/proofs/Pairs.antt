@@ -13,7 +13,7 @@ use Rattle.hys_lin.specs.declared.problem.Problem.{Problem}
 use Rattle.hys_lin.proofs.Lists.{each-append, each_more, terms-append}
 use Rattle.hys_relax.specs.LinearProgram.{linear_program, row_at}
 use Rattle.hys_relax.specs.Bound.{weights, multiplier, AreMultipliers, SignHolds, IsLawfulPair, AreLawful}
-use Rattle.hys_relax.proofs.Duality.{IsSigned}
+use Rattle.hys_relax.specs.Bound.{IsSigned}
 use Rattle.hys_relax.proofs.Dense.{own_column, other_column, coefficient_none}
 use Rattle.hys_simplex.specs.Status.{values_to}
 use Rattle.hys_simplex.specs.Unfit.{not_zero, pairs_to}

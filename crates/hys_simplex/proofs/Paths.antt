@@ -57,10 +57,10 @@ values_solve P T o x i l = ap₂ ◌+ₙ◌ (values_basic P T o x i (rw (← o.t
     ∙ by_ring (T.cell i T.columns ∷ sum_to T.columns (λ j. T.cell i j *ₙ x j) ∷ []) ((v 0 ⊖ v 1) ⊕ v 1) (v 0) refl
 
 -- ---- a status with raised ends is a status, and a pivot of the rule doesn't lower the bound
-raised_zero : (P : LinearProgram) (T : Tableau) → IsOf P T → (j : ℕ) → j < P.columns → raised P T j 0 ≡ T.cell P.rows j
+pub raised_zero : (P : LinearProgram) (T : Tableau) → IsOf P T → (j : ℕ) → j < P.columns → raised P T j 0 ≡ T.cell P.rows j
 raised_zero P T o j l = ap neg (subst (λ z. edge T j z ≡ neg (T.cell P.rows j)) o.placed.goal (edge_basic P T o j P.rows l (omega arith))) ∙ by_ring (T.cell P.rows j ∷ []) (minus (minus (v 0))) (v 0) refl
 
-first_not_below : (N : ℕ) (a : ℕ → Number) → IsPositive N a → a 0 <ₙ whole 0 → ⊥
+pub first_not_below : (N : ℕ) (a : ℕ → Number) → IsPositive N a → a 0 <ₙ whole 0 → ⊥
 first_not_below N a h l = go h.place refl
   where
     less : (x y : Number) → x <ₙ y → y <ₙ x → ⊥

@@ -9,13 +9,13 @@ use Rattle.hys_number.proofs.Scale.{overs, common1, common1_of, common2, common2
 use Rattle.hys_number.proofs.Inverse.{number_at}
 use Rattle.hys_number.proofs.Sums.{sum_to-same, sum_to-mul}
 use Rattle.hys_relax.proofs.Sums.{sum_zero}
-use Rattle.hys_relax.proofs.Duality.{IsSigned, regrouped, weak_duality}
+use Rattle.hys_relax.proofs.Duality.{regrouped, weak_duality}
 use Rattle.hys_relax.specs.LinearProgram.{LinearProgram, row_sum, cost_of, Meets}
 use Rattle.hys_lin.specs.declared.form.Interval.{Interval}
 use Rattle.hys_lin.specs.Sums.{compared}
 use Rattle.hys_lin.specs.Ranges.{end_by_sign}
 use Rattle.hys_relax.specs.Node.{Boxes, Inside}
-use Rattle.hys_relax.specs.Bound.{SignHolds, reduced_cost, reduced_constant, least_product, bound_of}
+use Rattle.hys_relax.specs.Bound.{IsSigned, SignHolds, reduced_cost, reduced_constant, least_product, bound_of}
 use Rattle.hys_simplex.specs.Tableau.{Tableau, start, Solves, coef, IsOf, cost_multiplier}
 use Rattle.hys_simplex.proofs.Relations.{AtEnd, IsStatus, SignOf, HasSigns, SlackIn, IsFeasible, column}
 use Rattle.hys_simplex.proofs.Same.{same_yes, same_no}
