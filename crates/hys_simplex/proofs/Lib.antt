@@ -19,3 +19,5 @@ pub mod Runs
 pub mod Pairs
 pub mod Stranded
 pub mod NodePaths
+pub mod Decide
+pub mod Paths13

@@ -3,3 +3,4 @@ pub mod Status
 pub mod Rule
 pub mod Path
 pub mod Unfit
+pub mod Worked
