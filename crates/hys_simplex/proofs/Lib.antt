@@ -21,3 +21,4 @@ pub mod Stranded
 pub mod NodePaths
 pub mod Decide
 pub mod Paths13
+pub mod One

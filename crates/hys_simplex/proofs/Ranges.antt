@@ -175,19 +175,23 @@ pub movable : (P : LinearProgram) (B : Boxes) (T : Tableau) (j : ℕ) → CanMov
 movable P B T j (column l m) e = lt_irrefl (B (T.outside j)).low (subst (λ z. (B (T.outside j)).low <ₙ z) (some_same (sym (upper_column P B (T.outside j) l) ∙ e ∙ ap Some (lower_column P B (T.outside j) l))) m)
 movable P B T j (slack i l q f) e = none_some (sym (ap (upper P B) q ∙ upper_slack P B i ∙ ap (λ b. if b then Some (whole 0) else None) f) ∙ e)
 
+-- no range is empty
+pub range_ordered : (P : LinearProgram) (B : Boxes) → IsOrdered P.columns B → (u : ℕ) → u < P.columns + P.rows → at_most (lower P B u) (upper P B u)
+range_ordered P B b u l = elim (cases u P.columns P.rows l) as (λ _. at_most (lower P B u) (upper P B u)) [
+  | inl m ↦ subst (at_most (lower P B u)) (sym (upper_column P B u m)) (subst (λ z. z ≤ₙ (B u).high) (sym (lower_column P B u m)) (b u m))
+  | inr z ↦ subst (at_most (lower P B u)) (sym (ap (upper P B) z.2 ∙ upper_slack P B z.0)) (subst (λ y. at_most y (if P.equation z.0 then Some (whole 0) else None)) (sym (ap (lower P B) z.2 ∙ lower_slack P B z.0)) (zeros (P.equation z.0)))
+]
+  where
+    zeros : (q : Bool) → at_most (whole 0) (if q then Some (whole 0) else None)
+    zeros true = le_refl' (whole 0)
+    zeros false = tt
+
 -- ---- all inside
 pub end_in_range : (P : LinearProgram) (B : Boxes) (T : Tableau) → IsOf P T → IsOrdered P.columns B → (j : ℕ) → j < P.columns → InRange P B (T.outside j) (end_value P B T j)
 end_in_range P B T o b j lj = go (is_raised_above P T j)
   where
     ordered : at_most (lower P B (T.outside j)) (upper P B (T.outside j))
-    ordered = elim (cases (T.outside j) P.columns P.rows (o.placed.outside_in j lj)) as (λ _. at_most (lower P B (T.outside j)) (upper P B (T.outside j))) [
-      | inl l ↦ subst (at_most (lower P B (T.outside j))) (sym (upper_column P B (T.outside j) l)) (subst (λ z. z ≤ₙ (B (T.outside j)).high) (sym (lower_column P B (T.outside j) l)) (b (T.outside j) l))
-      | inr z ↦ subst (at_most (lower P B (T.outside j))) (sym (ap (upper P B) z.2 ∙ upper_slack P B z.0)) (subst (λ y. at_most y (if P.equation z.0 then Some (whole 0) else None)) (sym (ap (lower P B) z.2 ∙ lower_slack P B z.0)) (zeros (P.equation z.0)))
-    ]
-      where
-        zeros : (q : Bool) → at_most (whole 0) (if q then Some (whole 0) else None)
-        zeros true = le_refl' (whole 0)
-        zeros false = tt
+    ordered = range_ordered P B b (T.outside j) (o.placed.outside_in j lj)
 
     upper_end : (low : Number) (high : Option Number) → at_most low high → (low ≤ₙ end_or high low) × at_most (end_or high low) high
     upper_end low None h = (le_refl' low, tt)
