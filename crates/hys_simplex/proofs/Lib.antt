@@ -20,5 +20,6 @@ pub mod Pairs
 pub mod Stranded
 pub mod NodePaths
 pub mod Decide
-pub mod Paths13
+pub mod WorkedPaths
 pub mod One
+pub mod Shown

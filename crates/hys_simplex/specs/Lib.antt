@@ -4,3 +4,4 @@ pub mod Rule
 pub mod Path
 pub mod Unfit
 pub mod Worked
+pub mod Laws

@@ -10,6 +10,7 @@ use Rattle.hys_simplex.specs.Tableau.{Tableau, start, pivot}
 use Rattle.hys_simplex.specs.Status.{status_point, basic_value, AllInside}
 use Rattle.hys_simplex.specs.Path.{RulesPath, IsPathAt, levels, tableau_after}
 use Rattle.hys_simplex.specs.Unfit.{cost_pairs}
+use Rattle.hys_simplex.specs.Laws.{WorkedPaths}
 use Rattle.hys_simplex.specs.Worked.{program, root_path, without, with_first}
 use Rattle.hys_simplex.specs.Rule.{IsRuled}
 use Rattle.hys_simplex.proofs.Decide.{inside_not_off, rule_test, beneath, beyond, rule_yes, inside_to, inside_yes}
@@ -111,3 +112,27 @@ not_up h = fourth h.4.4.4.0 h.4.4.4.2 h.4.4.4.3 h.4.4.4.4
         last (suc zero) l k q = settled (node_boxes worked with_first) (tableau_after worked (root_path ++ (1, 1) ∷ [])) 1 1 (omega arith) with_inside q
         last (suc (suc m)) l k q = absurd (omega arith)
     fourth (suc (suc m)) l q r = absurd (omega arith)
+
+without_cost : node_bound worked without (cost_pairs worked (tableau_after worked (root_path ++ (1, 3) ∷ []))) ≡ neg (whole 2)
+unfolding ◌+ₙ◌ ◌*ₙ◌ neg inverse whole make gcd
+without_cost = refl
+
+with_cost : node_bound worked with_first (cost_pairs worked (tableau_after worked (root_path ++ (1, 1) ∷ []))) ≡ neg (whole 4)
+unfolding ◌+ₙ◌ ◌*ₙ◌ neg inverse whole make gcd
+with_cost = refl
+
+pub worked_paths : WorkedPaths
+worked_paths = record {
+  root = root_ruled;
+  root_inside = root_inside;
+  root_point = root_point;
+  root_bound = root_cost;
+  first_at_0 = without_ruled;
+  inside_at_0 = without_inside;
+  bound_at_0 = without_cost;
+  first_at_1 = with_ruled;
+  inside_at_1 = with_inside;
+  bound_at_1 = with_cost;
+  upward = up_again;
+  not_upward = not_up;
+}

@@ -1,0 +1,82 @@
+-- The laws, put together.
+use Rattle.std.proofs.Common.{◌≡◌, ℕ, suc, ◌<◌, ◌≤◌, ◌↔◌, refl, sym, ◌∙◌, ap, subst, Bool, true, false, not, ◌||◌, cond, IsTrue, Option, Some, None, List, [], ◌∷◌, ◌++◌, length, take}
+use Rattle.std.specs.List.{list_any}
+use Rattle.hys_number.specs.Number.{Number}
+use Rattle.hys_number.specs.Ops.{fits}
+use Rattle.hys_lin.specs.Operations.{first_lost, outcome}
+use Rattle.hys_lin.specs.declared.lost.Lost.{Lost}
+use Rattle.hys_relax.specs.Node.{node_boxes}
+use Rattle.hys_relax.specs.LinearProgram.{linear_program}
+use Rattle.hys_relax.proofs.Nodes.{node_ordered}
+use Rattle.hys_simplex.specs.Tableau.{Tableau, start, cost_multiplier, row_multiplier}
+use Rattle.hys_simplex.specs.Path.{levels}
+use Rattle.hys_simplex.specs.Unfit.{SomeUnfit}
+use Rattle.hys_simplex.specs.Laws.{PivotKeeps, PathReaches, RuledReaches, OneRuled, CostRow, RuledRises, RuledIsLawful, BoundAfterPath, PathBelow, PathGoesOn, NoStatusTwice, RunEnds, BlockedRow, AllInsideIsLeast, LostIsUnfit}
+use Rattle.hys_simplex.proofs.Places.{start_of}
+use Rattle.hys_simplex.proofs.Pairs.{are_multipliers}
+use Rattle.hys_simplex.proofs.Stranded.{stranded}
+use Rattle.hys_simplex.proofs.One.{one_rule}
+use Rattle.hys_simplex.proofs.Pivots as Pivots
+use Rattle.hys_simplex.proofs.Rules.{ruled_of, ruled_cell, pivot_rises, pivot_feasible}
+use Rattle.hys_simplex.proofs.Runs.{Kept, start_feasible, pivot_bound, run_never_twice, run_ends}
+use Rattle.hys_simplex.proofs.NodePaths.{reaches, are_pivots, cost_lawful, cost_bound, point_cost, point_bound, point_least, plain_under, rules_lawful, levels_ordered, path_below, path_on, row_lawful, row_above}
+
+pub pivot_keeps : PivotKeeps
+pivot_keeps = Pivots.pivot_keeps
+
+pub path_reaches : PathReaches
+path_reaches p fixings path h r = let s : Kept _ _ = reaches p fixings path h r in (record { of = s.of; feasible = s.feasible }, are_pivots p fixings path r)
+
+pub ruled_reaches : RuledReaches
+ruled_reaches P B T r c b s h = (record { of = ruled_of P B T r c s.of h; feasible = pivot_feasible P B T r c s.of b h s.feasible }, ruled_cell P B T r c h)
+
+pub one_ruled : OneRuled
+one_ruled = one_rule
+
+pub cost_row : CostRow
+cost_row p B T h s = record {
+  rise = are_multipliers (length p.rows) (cost_multiplier (linear_program p) T);
+  lawful = cost_lawful p T s.of s.feasible;
+  bound = cost_bound p B T s.of ∙ sym (point_cost p B T h);
+}
+
+pub ruled_rises : RuledRises
+ruled_rises P B T r c b s h = (pivot_rises P B T r c s.of b h, pivot_bound P B T r c s.of b h)
+
+pub ruled_is_lawful : RuledIsLawful
+ruled_is_lawful p fixings path h r = rules_lawful (linear_program p) (levels p fixings) 0 (length fixings) (start (linear_program p)) path (levels_ordered p h fixings) r
+    (record { of = start_of (linear_program p); feasible = start_feasible (linear_program p) })
+
+pub bound_after_path : BoundAfterPath
+bound_after_path = plain_under
+
+pub below : PathBelow
+below = path_below
+
+pub goes_on : PathGoesOn
+goes_on = path_on
+
+pub no_status_twice : NoStatusTwice
+no_status_twice P B T run i j b s r l m = run_never_twice P B T run b r (record { of = s.of; feasible = s.feasible }) i j l m
+
+pub ends : RunEnds
+ends P B T run b s r = run_ends P B T run b r (record { of = s.of; feasible = s.feasible })
+
+pub blocked_row : BlockedRow
+blocked_row p B T r side near b s h = record {
+  rise = are_multipliers (length p.rows) (row_multiplier (linear_program p) T r side);
+  lawful = row_lawful p B T r side near s.of s.feasible b h;
+  above = row_above p B T r side near s.of s.feasible b h;
+  stranded = stranded (linear_program p) B T r side near s.of s.feasible h;
+}
+
+pub inside_is_least : AllInsideIsLeast
+inside_is_least p fixings T h s a = record { least = point_least p fixings T h s.of s.feasible a; cost = point_bound p fixings T h s.of }
+
+pub lost_is_unfit : LostIsUnfit
+lost_is_unfit [] lost e = absurd (cc)
+lost_is_unfit (o ∷ os) lost e = go (fits (outcome o)) e (lost_is_unfit os lost)
+  where
+    go : (b : Bool) → cond b (first_lost os) (Some o) ≡ Some lost → (first_lost os ≡ Some lost → SomeUnfit fits os) → (not b || list_any (λ o. not (fits (outcome o))) os) ≡ true
+    go true f h = h f
+    go false f h = refl
