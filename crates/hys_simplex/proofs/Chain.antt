@@ -1,18 +1,18 @@
 -- No status comes twice.
-use Rattle.std.proofs.Common.{◌≡◌, ℕ, zero, suc, ◌+◌, ◌*◌, ◌-◌, ◌<◌, ◌≤◌, ◌↔◌, ◌⊎◌, inl, inr, refl, sym, ◌∙◌, ap, ap₂, subst, arith, List, [], ◌∷◌, Bool, true, false, if◌then◌else◌, ltb}
+use Rattle.std.proofs.Common.{◌≡◌, ℕ, zero, suc, ◌+◌, ◌*◌, ◌-◌, ◌<◌, ◌≤◌, ◌⊎◌, inl, inr, refl, sym, ◌∙◌, ap, subst, arith, [], ◌∷◌, true, false, if◌then◌else◌, ltb}
 use Rattle.hys_number.specs.Number.{Number}
 use Rattle.hys_number.specs.Ops.{neg, ◌+ₙ◌}
 use Rattle.hys_relax.specs.LinearProgram.{LinearProgram}
 use Rattle.hys_relax.specs.Node.{Boxes}
 use Rattle.hys_simplex.specs.Tableau.{Tableau, Solves, IsOf}
 use Rattle.hys_simplex.specs.Status.{IsPositive, IsNull, Rises, place_var, raised}
-use Rattle.hys_simplex.proofs.Relations.{StandsAtEnds, column, SameEnds, raised_cost}
-use Rattle.hys_simplex.proofs.Lex.{RaisedSign, raised_sign, positive_not_null, positive_add, rises_trans, rises_irrefl, below, down, nothing, up}
+use Rattle.hys_simplex.proofs.Relations.{StandsAtEnds, SameEnds, raised_cost}
+use Rattle.hys_simplex.proofs.Lex.{RaisedSign, raised_sign, positive_not_null, positive_add, rises_trans, rises_irrefl, down, nothing, up}
 use Rattle.hys_simplex.proofs.Edges.{determined}
 use Rattle.hys_simplex.proofs.Rising.{place_in, raised_not_null}
 use Rattle.hys_simplex.proofs.Ruled.{cases}
 use Rattle.hys_simplex.proofs.Measure.{steps_below, pack, power, pack_below, pack_same}
-use Rattle.hys_number.proofs.Ring.{by_ring, v, k, minus, ◌⊖◌}
+use Rattle.hys_number.proofs.Ring.{by_ring, v, k, ◌⊖◌}
 
 -- two statuses that are the same have the same point
 pub same_point : (P : LinearProgram) (B : Boxes) (T T' : Tableau) (w w' : ℕ → Number) → IsOf P T → IsOf P T' → StandsAtEnds P B T w → StandsAtEnds P B T' w' → SameEnds P T T' →
@@ -100,8 +100,12 @@ entry_below : (P : LinearProgram) (T : Tableau) → IsOf P T → (x : ℕ) → x
 entry_below P T o x l = elim (split x P.rows) as (λ _. entry P T x < base P) [
   | inl m ↦ omega (arith, entry_left P T x m, o.placed.basic_in x m)
   | inr m ↦ let q : P.rows + (x - P.rows) ≡ x = omega arith in
-      omega (arith, subst (λ z. entry P T z ≡ 2 * T.outside (x - P.rows) + bit (raised_sign (suc P.columns) (raised P T (x - P.rows)))) q (entry_right P T (x - P.rows)),
-        o.placed.outside_in (x - P.rows) (omega arith), bit_le (raised_sign (suc P.columns) (raised P T (x - P.rows))))
+      omega (
+        arith,
+        subst (λ z. entry P T z ≡ 2 * T.outside (x - P.rows) + bit (raised_sign (suc P.columns) (raised P T (x - P.rows)))) q (entry_right P T (x - P.rows)),
+        o.placed.outside_in (x - P.rows) (omega arith),
+        bit_le (raised_sign (suc P.columns) (raised P T (x - P.rows))),
+      )
 ]
   where
     split : (x m : ℕ) → (x < m) ⊎ (m ≤ x)
@@ -123,9 +127,10 @@ both_not N a h g = positive_not_null N (λ t. a t +ₙ neg (a t)) (positive_add 
 pub same_code : (P : LinearProgram) (T T' : Tableau) (w w' : ℕ → Number) → IsOf P T → IsOf P T' → Solves T w → Solves T' w' → code P T ≡ code P T' → SameEnds P T T'
 same_code P T T' w w' o o' s s' e = record {
   basics = λ i l. sym (entry_left P T i l) ∙ same i (omega arith) ∙ entry_left P T' i l;
-  ends = λ j j' l l' m q. let q' : j' ≡ j = o'.placed.once j' j l' l (sym q ∙ (column j l).0) in
-      (λ p. subst (λ z. IsPositive (suc P.columns) (raised P T' z)) (sym q') (bit_up (sg T j) (sg T' j) (column j l).1 (both_not (suc P.columns) (raised P T j)) (raised_not_null P T o w s j l) p),
-       λ p. bit_up (sg T' j) (sg T j) (sym (column j l).1) (both_not (suc P.columns) (raised P T' j)) (raised_not_null P T' o' w' s' j l) (subst (λ z. IsPositive (suc P.columns) (raised P T' z)) q' p));
+  ends = λ j j' l l' m q. let q' : j' ≡ j = o'.placed.once j' j l' l (sym q ∙ (column j l).0) in (
+    λ p. subst (λ z. IsPositive (suc P.columns) (raised P T' z)) (sym q') (bit_up (sg T j) (sg T' j) (column j l).1 (both_not (suc P.columns) (raised P T j)) (raised_not_null P T o w s j l) p),
+    λ p. bit_up (sg T' j) (sg T j) (sym (column j l).1) (both_not (suc P.columns) (raised P T' j)) (raised_not_null P T' o' w' s' j l) (subst (λ z. IsPositive (suc P.columns) (raised P T' z)) q' p),
+  );
 }
   where
     sg : (T : Tableau) (j : ℕ) → RaisedSign (suc P.columns) (raised P T j)

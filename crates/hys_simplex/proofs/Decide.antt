@@ -1,15 +1,15 @@
 -- Tests of the rule at numbers, so that worked paths are checked by computation.
-use Rattle.std.proofs.Common.{◌≡◌, ℕ, zero, suc, ◌+◌, ◌-◌, ◌<◌, ◌≤◌, ◌⊎◌, inl, inr, refl, sym, ◌∙◌, ap, ap₂, subst, arith, Bool, true, false, ◌&&◌, ◌||◌, not, if◌then◌else◌, ltb, Option, Some, None, ℤ, pos, negsuc, List, [], ◌∷◌}
+use Rattle.std.proofs.Common.{◌≡◌, ℕ, zero, suc, ◌<◌, ◌⊎◌, inl, inr, refl, sym, ◌∙◌, ap, subst, arith, Bool, true, false, ◌&&◌, ◌||◌, not, ltb, Option, Some, None, ℤ, pos, negsuc}
 use Rattle.hys_number.specs.Number.{Number}
-use Rattle.hys_number.specs.Ops.{◌+ₙ◌, ◌*ₙ◌, ◌-ₙ◌, neg, ◌≤ₙ◌, ◌<ₙ◌, whole}
+use Rattle.hys_number.specs.Ops.{◌*ₙ◌, ◌-ₙ◌, neg, ◌≤ₙ◌, ◌<ₙ◌, whole}
 use Rattle.hys_number.proofs.Laws.{whole-ratio}
 use Rattle.hys_number.proofs.Order.{le_total, le_antisymm}
 use Rattle.hys_number.proofs.Scale.{overs, common2, common2_of}
 use Rattle.hys_relax.specs.Node.{Boxes}
 use Rattle.hys_relax.specs.LinearProgram.{LinearProgram}
 use Rattle.hys_simplex.specs.Tableau.{Tableau}
-use Rattle.hys_simplex.specs.Status.{Rises, is_positive, lower, upper, at_most, InRange, IsOff, under, over, basic_value, AllInside}
-use Rattle.hys_simplex.specs.Rule.{IsMovable, raised_sign, MayEnter, ratio, IsEntering, IsLeaving, IsRuled}
+use Rattle.hys_simplex.specs.Status.{Rises, is_positive, lower, upper, at_most, InRange, IsOff, under, over, basic_value}
+use Rattle.hys_simplex.specs.Rule.{raised_sign, MayEnter, ratio, IsRuled}
 use Rattle.hys_simplex.proofs.Status.{zero_of, above_of, below_of}
 use Rattle.hys_simplex.proofs.Ranges.{test_is}
 
@@ -167,8 +167,8 @@ off_test beyond (Some near) x = lt_test near x
 abbrev pub rule_test : LinearProgram → Boxes → Tableau → Side → ℕ → ℕ → Bool
 rule_test P B T s r c =
     ltb r P.rows && (inside_to P B T r && (off_test s (end_of s P B (T.basic r)) (basic_value P B T r) && (ltb c P.columns
-      && (not (fixed_test (upper P B (T.outside c)) (lower P B (T.outside c))) && (lt_test (whole 0) (sign s *ₙ raised_sign P T c *ₙ T.cell r c)
-        && all_to P.columns (λ j. least_test P B T r (sign s) c j))))))
+    && (not (fixed_test (upper P B (T.outside c)) (lower P B (T.outside c))) && (lt_test (whole 0) (sign s *ₙ raised_sign P T c *ₙ T.cell r c)
+    && all_to P.columns (λ j. least_test P B T r (sign s) c j))))))
 
 record Off (P : LinearProgram) (B : Boxes) (u : ℕ) (x side : Number) : Type 0 where
   pub near : Number
@@ -205,7 +205,7 @@ rule_yes P B T s r c h =
     let e : (ltb c P.columns ≡ true) × _ = both_true (ltb c P.columns) _ d.1 in
     let f : (not (fixed_test (upper P B (T.outside c)) (lower P B (T.outside c))) ≡ true) × _ = both_true (not (fixed_test (upper P B (T.outside c)) (lower P B (T.outside c)))) _ e.1 in
     let g : (lt_test (whole 0) (sign s *ₙ raised_sign P T c *ₙ T.cell r c) ≡ true) × (all_to P.columns (λ j. least_test P B T r (sign s) c j) ≡ true) =
-          both_true (lt_test (whole 0) (sign s *ₙ raised_sign P T c *ₙ T.cell r c)) (all_to P.columns (λ j. least_test P B T r (sign s) c j)) f.1 in
+    both_true (lt_test (whole 0) (sign s *ₙ raised_sign P T c *ₙ T.cell r c)) (all_to P.columns (λ j. least_test P B T r (sign s) c j)) f.1 in
     let o : Off P B (T.basic r) (basic_value P B T r) (sign s) = off_yes s P B (T.basic r) (basic_value P B T r) d.0 in
     record {
       side = sign s;

@@ -1,5 +1,5 @@
 -- Edges: what the rows and the variables outside determine.
-use Rattle.std.proofs.Common.{◌≡◌, ℕ, zero, suc, ◌+◌, ◌*◌, ◌<◌, ◌≤◌, ◌↔◌, ◌⊎◌, inl, inr, refl, sym, ◌∙◌, ap, ap₂, subst, arith, List, [], ◌∷◌, ◌==◌, if◌then◌else◌}
+use Rattle.std.proofs.Common.{◌≡◌, ℕ, suc, ◌+◌, ◌<◌, ◌≤◌, ◌⊎◌, inl, inr, refl, sym, ◌∙◌, ap, ap₂, subst, arith, [], ◌∷◌}
 use Rattle.hys_number.specs.Number.{Number}
 use Rattle.hys_number.specs.Sums.{sum_to}
 use Rattle.hys_number.specs.Ops.{neg, inverse, whole, ◌+ₙ◌, ◌*ₙ◌, ◌-ₙ◌}
@@ -9,7 +9,6 @@ use Rattle.hys_relax.proofs.Sums.{sum_linear, sum_zero, sum_single}
 use Rattle.hys_relax.specs.LinearProgram.{LinearProgram}
 use Rattle.hys_simplex.specs.Tableau.{Tableau, pivot, line, Solves, unit, IsOf}
 use Rattle.hys_simplex.specs.Status.{edge}
-use Rattle.hys_simplex.proofs.Relations.{column}
 use Rattle.hys_simplex.proofs.Pivots.{put_at, put_else, line_r, line_other, same_place}
 use Rattle.hys_simplex.proofs.Rows.{unit_yes, unit_no}
 use Rattle.hys_simplex.proofs.Places.{put_case, pivot_of, moved, kept}
@@ -18,11 +17,11 @@ use Rattle.hys_number.proofs.Ring.{by_ring, v, k, minus, ◌⊕◌, ◌⊗◌, �
 pub line_linear : (T : Tableau) (a b : Number) (f g : ℕ → Number) (i : ℕ) → line T (λ u. a *ₙ f u +ₙ b *ₙ g u) i ≡ a *ₙ line T f i +ₙ b *ₙ line T g i
 line_linear T a b f g i =
     ap (λ z. (a *ₙ f (T.basic i) +ₙ b *ₙ g (T.basic i)) +ₙ z)
-      (sum_to-same T.columns _ (λ j. a *ₙ (T.cell i j *ₙ f (T.outside j)) +ₙ b *ₙ (T.cell i j *ₙ g (T.outside j)))
-        (λ j l. by_ring (a ∷ b ∷ T.cell i j ∷ f (T.outside j) ∷ g (T.outside j) ∷ []) (v 2 ⊗ (v 0 ⊗ v 3 ⊕ v 1 ⊗ v 4)) (v 0 ⊗ (v 2 ⊗ v 3) ⊕ v 1 ⊗ (v 2 ⊗ v 4)) refl)
-       ∙ sum_linear T.columns a b (λ j. T.cell i j *ₙ f (T.outside j)) (λ j. T.cell i j *ₙ g (T.outside j)))
+    (sum_to-same T.columns _ (λ j. a *ₙ (T.cell i j *ₙ f (T.outside j)) +ₙ b *ₙ (T.cell i j *ₙ g (T.outside j)))
+    (λ j l. by_ring (a ∷ b ∷ T.cell i j ∷ f (T.outside j) ∷ g (T.outside j) ∷ []) (v 2 ⊗ (v 0 ⊗ v 3 ⊕ v 1 ⊗ v 4)) (v 0 ⊗ (v 2 ⊗ v 3) ⊕ v 1 ⊗ (v 2 ⊗ v 4)) refl)
+    ∙ sum_linear T.columns a b (λ j. T.cell i j *ₙ f (T.outside j)) (λ j. T.cell i j *ₙ g (T.outside j)))
     ∙ by_ring (a ∷ b ∷ f (T.basic i) ∷ g (T.basic i) ∷ sum_to T.columns (λ j. T.cell i j *ₙ f (T.outside j)) ∷ sum_to T.columns (λ j. T.cell i j *ₙ g (T.outside j)) ∷ [])
-        ((v 0 ⊗ v 2 ⊕ v 1 ⊗ v 3) ⊕ (v 0 ⊗ v 4 ⊕ v 1 ⊗ v 5)) (v 0 ⊗ (v 2 ⊕ v 4) ⊕ v 1 ⊗ (v 3 ⊕ v 5)) refl
+    ((v 0 ⊗ v 2 ⊕ v 1 ⊗ v 3) ⊕ (v 0 ⊗ v 4 ⊕ v 1 ⊗ v 5)) (v 0 ⊗ (v 2 ⊕ v 4) ⊕ v 1 ⊗ (v 3 ⊕ v 5)) refl
 
 abbrev pub IsFlat : Tableau → (ℕ → Number) → Type 0
 IsFlat T h = (i : ℕ) → i ≤ T.rows → line T h i ≡ whole 0
@@ -60,13 +59,13 @@ determined P T o f g h s u l = elim (cases u l) as (λ _. f u ≡ g u) [
 -- ---- edges
 pub edge_outside : (P : LinearProgram) (T : Tableau) → IsOf P T → (c j : ℕ) → c < P.columns → j < P.columns → edge T c (T.outside j) ≡ unit (T.outside c) (T.outside j)
 edge_outside P T o c j lc lj = ap (λ z. unit (T.outside c) (T.outside j) -ₙ z)
-      (sum_zero (suc T.rows) _ (λ i l. ap (λ z. z *ₙ T.cell i c) (unit_no (T.basic i) (T.outside j) (λ e. o.placed.apart i j (omega (arith, o.tall)) lj (sym e))) ∙ by_ring (T.cell i c ∷ []) (k 0 ⊗ v 0) (k 0) refl))
+    (sum_zero (suc T.rows) _ (λ i l. ap (λ z. z *ₙ T.cell i c) (unit_no (T.basic i) (T.outside j) (λ e. o.placed.apart i j (omega (arith, o.tall)) lj (sym e))) ∙ by_ring (T.cell i c ∷ []) (k 0 ⊗ v 0) (k 0) refl))
     ∙ by_ring (unit (T.outside c) (T.outside j) ∷ []) (v 0 ⊖ k 0) (v 0) refl
 
 pub edge_basic : (P : LinearProgram) (T : Tableau) → IsOf P T → (c i : ℕ) → c < P.columns → i ≤ P.rows → edge T c (T.basic i) ≡ neg (T.cell i c)
 edge_basic P T o c i lc li = ap₂ (λ y z. y -ₙ z) (unit_no (T.outside c) (T.basic i) (o.placed.apart i c li lc))
-      (sum_single (suc T.rows) i (λ q. unit (T.basic q) (T.basic i) *ₙ T.cell q c) (omega (arith, o.tall)) (λ q l d. ap (λ z. z *ₙ T.cell q c) (unit_no (T.basic q) (T.basic i) (λ e. d (o.placed.basic_once q i (omega (arith, o.tall)) li (sym e)))) ∙ by_ring (T.cell q c ∷ []) (k 0 ⊗ v 0) (k 0) refl)
-       ∙ ap (λ z. z *ₙ T.cell i c) (unit_yes (T.basic i)))
+    (sum_single (suc T.rows) i (λ q. unit (T.basic q) (T.basic i) *ₙ T.cell q c) (omega (arith, o.tall)) (λ q l d. ap (λ z. z *ₙ T.cell q c) (unit_no (T.basic q) (T.basic i) (λ e. d (o.placed.basic_once q i (omega (arith, o.tall)) li (sym e)))) ∙ by_ring (T.cell q c ∷ []) (k 0 ⊗ v 0) (k 0) refl)
+    ∙ ap (λ z. z *ₙ T.cell i c) (unit_yes (T.basic i)))
     ∙ by_ring (T.cell i c ∷ []) (k 0 ⊖ k 1 ⊗ v 0) (minus (v 0)) refl
 
 unit_apart : (P : LinearProgram) (T : Tableau) → IsOf P T → (c j : ℕ) → c < P.columns → j < P.columns → ¬ (j ≡ c) → unit (T.outside c) (T.outside j) ≡ whole 0
@@ -74,9 +73,9 @@ unit_apart P T o c j lc lj d = unit_no (T.outside c) (T.outside j) (λ e. d (o.p
 
 pub edge_flat : (P : LinearProgram) (T : Tableau) → IsOf P T → (c : ℕ) → c < P.columns → IsFlat T (edge T c)
 edge_flat P T o c lc i l = ap₂ ◌+ₙ◌ (edge_basic P T o c i lc (rw (← o.tall) l))
-      (sum_single T.columns c (λ j. T.cell i j *ₙ edge T c (T.outside j)) (rw o.wide lc)
-        (λ j m d. ap (λ z. T.cell i j *ₙ z) (edge_outside P T o c j lc (rw (← o.wide) m) ∙ unit_apart P T o c j lc (rw (← o.wide) m) d) ∙ by_ring (T.cell i j ∷ []) (v 0 ⊗ k 0) (k 0) refl)
-       ∙ ap (λ z. T.cell i c *ₙ z) (edge_outside P T o c c lc lc ∙ unit_yes (T.outside c)))
+    (sum_single T.columns c (λ j. T.cell i j *ₙ edge T c (T.outside j)) (rw o.wide lc)
+    (λ j m d. ap (λ z. T.cell i j *ₙ z) (edge_outside P T o c j lc (rw (← o.wide) m) ∙ unit_apart P T o c j lc (rw (← o.wide) m) d) ∙ by_ring (T.cell i j ∷ []) (v 0 ⊗ k 0) (k 0) refl)
+    ∙ ap (λ z. T.cell i c *ₙ z) (edge_outside P T o c c lc lc ∙ unit_yes (T.outside c)))
     ∙ by_ring (T.cell i c ∷ []) (minus (v 0) ⊕ v 0 ⊗ k 1) (k 0) refl
 
 -- two solutions that differ outside in one column differ by a multiple of its edge

@@ -1,13 +1,12 @@
 -- Raised numbers and the lexicographic ratio test.
-use Rattle.std.proofs.Common.{◌≡◌, ℕ, zero, suc, ◌+◌, ◌*◌, ◌<◌, ◌≤◌, ◌↔◌, ◌⊎◌, inl, inr, refl, sym, ◌∙◌, ap, ap₂, subst, arith, List, [], ◌∷◌, ℤ, pos, negsuc, mul-pos, ◌-◌}
+use Rattle.std.proofs.Common.{◌≡◌, ℕ, zero, suc, ◌+◌, ◌*◌, ◌<◌, ◌≤◌, ◌⊎◌, inl, inr, refl, sym, ◌∙◌, ap, ap₂, subst, arith, [], ◌∷◌, ℤ, pos, negsuc, mul-pos, ◌-◌}
 use Rattle.hys_number.specs.Number.{Number}
 use Rattle.hys_number.specs.Ops.{neg, inverse, whole, ◌+ₙ◌, ◌*ₙ◌, ◌-ₙ◌, ◌≤ₙ◌, ◌<ₙ◌}
 use Rattle.hys_number.proofs.Laws.{whole-ratio, mul-ratio, ratio}
 use Rattle.hys_number.proofs.Order.{le_total, mul-le-mul_left}
 use Rattle.hys_number.proofs.Scale.{overs, common1, common1_of, common2, common2_of, same-over, lt-over}
 use Rattle.hys_number.proofs.Inverse.{mul_inverse}
-use Rattle.hys_simplex.specs.Status.{IsPositive, IsNull, Rises, raised}
-use Rattle.hys_simplex.proofs.Relations.{column}
+use Rattle.hys_simplex.specs.Status.{IsPositive, IsNull, Rises}
 use Rattle.hys_simplex.proofs.Status.{zero_of, above_of, below_of}
 use Rattle.hys_number.proofs.Ring.{by_ring, v, k, minus, ◌⊕◌, ◌⊗◌, ◌⊖◌}
 
@@ -24,8 +23,12 @@ above_is a l = elim (common1_of a) [ common1 D h p n e ↦ above (p - n) D (at_l
         omega (arith, (lt-over D h (0 * D) 0 p n).0 m)
 
 pub mul_above : (a b : Number) → whole 0 <ₙ a → whole 0 <ₙ b → whole 0 <ₙ a *ₙ b
-mul_above a b l m = elim (above_is a l) [ above p d hp hd e ↦ elim (above_is b m) [ above p' d' hp' hd' e' ↦
-    rw (e, e', mul-ratio p 0 d p' 0 d' hd hd', whole-ratio 0 (d * d') (mul-pos hd hd')) ((lt-over (d * d') (mul-pos hd hd') (0 * (d * d')) 0 (p * p' + 0 * 0) (p * 0 + 0 * p')).1 (omega (arith, mul-pos hp hp'))) ] ]
+mul_above a b l m = elim (above_is a l) [
+  | above p d hp hd e ↦ elim (above_is b m) [
+    | above p' d' hp' hd' e' ↦
+        rw (e, e', mul-ratio p 0 d p' 0 d' hd hd', whole-ratio 0 (d * d') (mul-pos hd hd')) ((lt-over (d * d') (mul-pos hd hd') (0 * (d * d')) 0 (p * p' + 0 * 0) (p * 0 + 0 * p')).1 (omega (arith, mul-pos hp hp')))
+  ]
+]
 
 pub lt_le : (a b : Number) → a <ₙ b → a ≤ₙ b
 lt_le a b = elim (common2_of a b) [ common2 D h p1 n1 p2 n2 e1 e2 ↦ rw (e1, e2) (simp overs (omega arith)) ]
@@ -131,15 +134,17 @@ positive_add N a b h g = elim (cases h.place g.place) as (λ _. IsPositive N (λ
   | inl l ↦ first h.place l
   | inr l ↦ elim (cases g.place h.place) as (λ _. IsPositive N (λ t. a t +ₙ b t)) [
     | inl m ↦ record {
-        place = g.place; within = g.within;
-        before = λ j q. ap₂ ◌+ₙ◌ (h.before j (omega (arith, q, m))) (g.before j q) ∙ zeros;
-        above = subst (λ z. whole 0 <ₙ z) (swap (a g.place) (b g.place)) (add_above (b g.place) (a g.place) g.above (subst (λ z. whole 0 ≤ₙ z) (sym (h.before g.place m)) zero_le));
-      }
+      place = g.place;
+      within = g.within;
+      before = λ j q. ap₂ ◌+ₙ◌ (h.before j (omega (arith, q, m))) (g.before j q) ∙ zeros;
+      above = subst (λ z. whole 0 <ₙ z) (swap (a g.place) (b g.place)) (add_above (b g.place) (a g.place) g.above (subst (λ z. whole 0 ≤ₙ z) (sym (h.before g.place m)) zero_le));
+    }
     | inr m ↦ let e : g.place ≡ h.place = omega arith in record {
-        place = h.place; within = h.within;
-        before = λ j q. ap₂ ◌+ₙ◌ (h.before j q) (g.before j (omega (arith, q, e))) ∙ zeros;
-        above = add_above (a h.place) (b h.place) h.above (subst (λ z. whole 0 ≤ₙ b z) e (lt_le (whole 0) (b g.place) g.above));
-      }
+      place = h.place;
+      within = h.within;
+      before = λ j q. ap₂ ◌+ₙ◌ (h.before j q) (g.before j (omega (arith, q, e))) ∙ zeros;
+      above = add_above (a h.place) (b h.place) h.above (subst (λ z. whole 0 ≤ₙ b z) e (lt_le (whole 0) (b g.place) g.above));
+    }
   ]
 ]
   where
@@ -157,7 +162,8 @@ positive_add N a b h g = elim (cases h.place g.place) as (λ _. IsPositive N (λ
 
     first : (x : ℕ) → h.place < g.place → IsPositive N (λ t. a t +ₙ b t)
     first x l = record {
-      place = h.place; within = h.within;
+      place = h.place;
+      within = h.within;
       before = λ j q. ap₂ ◌+ₙ◌ (h.before j q) (g.before j (omega (arith, q, l))) ∙ zeros;
       above = add_above (a h.place) (b h.place) h.above (subst (λ z. whole 0 ≤ₙ z) (sym (g.before h.place l)) zero_le);
     }

@@ -1,9 +1,8 @@
 -- Different numbers below a bound, and lists as numbers.
-use Rattle.std.proofs.Common.{◌≡◌, ℕ, zero, suc, ◌+◌, ◌*◌, ◌-◌, ◌<◌, ◌≤◌, ◌↔◌, ◌⊎◌, inl, inr, ⊎_elim, refl, sym, ◌∙◌, ap, ap₂, subst, arith, List, [], ◌∷◌, Bool, true, false, cond, length, eqb, ◌^◌, eqb→eq, T, ◌||◌, ◌/◌}
-use Rattle.std.specs.List.{count_by, IsDistinct, AllByRecursion, list_any}
+use Rattle.std.proofs.Common.{◌≡◌, ℕ, zero, suc, ◌+◌, ◌*◌, ◌<◌, ◌≤◌, ◌⊎◌, inl, inr, refl, sym, ◌∙◌, ap, subst, arith, List, [], ◌∷◌, Bool, true, false, length, eqb, eqb→eq, T, ◌||◌, ◌/◌}
+use Rattle.std.specs.List.{IsDistinct, AllByRecursion, list_any}
 use Rattle.std.proofs.lemmas.Map.Steps.{length-le_from_distinct_below}
 use Rattle.std.proofs.lemmas.Nat.{div-mul-add, mul-add-lt}
-
 
 -- ---- different codes below N are at most N
 abbrev codes : ℕ → (ℕ → ℕ) → List ℕ

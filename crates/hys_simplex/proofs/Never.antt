@@ -1,5 +1,5 @@
 -- Where no column may enter, the multipliers of the row show that no point exists.
-use Rattle.std.proofs.Common.{◌≡◌, ℕ, zero, suc, ◌+◌, ◌<◌, ◌≤◌, ◌↔◌, ◌⊎◌, inl, inr, refl, sym, ◌∙◌, ap, ap₂, subst, arith, Bool, true, false, List, [], ◌∷◌, ℤ, pos, negsuc, ◌==◌, if◌then◌else◌}
+use Rattle.std.proofs.Common.{◌≡◌, ℕ, zero, suc, ◌+◌, ◌<◌, ◌≤◌, inl, inr, refl, sym, ◌∙◌, ap, ap₂, subst, arith, Bool, true, false, [], ◌∷◌, ℤ, pos, negsuc}
 use Rattle.hys_number.specs.Number.{Number}
 use Rattle.hys_number.specs.Sums.{sum_to}
 use Rattle.hys_number.specs.Ops.{neg, whole, ◌+ₙ◌, ◌*ₙ◌, ◌-ₙ◌, ◌≤ₙ◌, ◌<ₙ◌}
@@ -31,17 +31,17 @@ costless_zero P x = ap (λ z. whole 0 +ₙ z) (sum_zero P.columns (λ j. whole 0
 
 pub coef_self : (P : LinearProgram) (T : Tableau) → IsOf P T → (i : ℕ) → i ≤ P.rows → coef T i (T.basic i) ≡ whole 1
 coef_self P T s i li = ap₂ ◌+ₙ◌ (unit_yes (T.basic i))
-      (sum_zero T.columns (λ q. T.cell i q *ₙ unit (T.basic i) (T.outside q))
-        (λ q m. ap (λ z. T.cell i q *ₙ z) (unit_no (T.basic i) (T.outside q) (λ e. s.placed.apart i q li (rw (← s.wide) m) (sym e))) ∙ by_ring (T.cell i q ∷ []) (v 0 ⊗ k 0) (k 0) refl))
+    (sum_zero T.columns (λ q. T.cell i q *ₙ unit (T.basic i) (T.outside q))
+    (λ q m. ap (λ z. T.cell i q *ₙ z) (unit_no (T.basic i) (T.outside q) (λ e. s.placed.apart i q li (rw (← s.wide) m) (sym e))) ∙ by_ring (T.cell i q ∷ []) (v 0 ⊗ k 0) (k 0) refl))
     ∙ by_ring [] (k 1 ⊕ k 0) (k 1) refl
 
 pub row_reduced_is : (P : LinearProgram) (T : Tableau) (r q : ℕ) (side : Number) → q < P.columns → r < P.rows → IsMix P T → reduced_cost (costless_program P) (row_multiplier P T r side) q ≡ side *ₙ coef T r q
 row_reduced_is P T r q side l lr s =
     let a : ℕ → Number = λ j. coef T r (P.columns + j) in
     let e : coef T r q ≡ sum_to P.rows (λ j. a j *ₙ P.factor j q) +ₙ whole 0 =
-          s.lines (unit q) r (omega arith) ∙ ap₂ ◌+ₙ◌ (sum_to-same P.rows _ (λ j. a j *ₙ P.factor j q) (λ j m. ap (λ z. a j *ₙ z) (row_at P q j l m))) (last_no r P.rows _ lr) in
+    s.lines (unit q) r (omega arith) ∙ ap₂ ◌+ₙ◌ (sum_to-same P.rows _ (λ j. a j *ₙ P.factor j q) (λ j m. ap (λ z. a j *ₙ z) (row_at P q j l m))) (last_no r P.rows _ lr) in
     let g : sum_to P.rows (λ j. (side *ₙ a j) *ₙ P.factor j q) ≡ side *ₙ sum_to P.rows (λ j. a j *ₙ P.factor j q) =
-          sum_to-same P.rows _ (λ j. side *ₙ (a j *ₙ P.factor j q)) (λ j m. by_ring (side ∷ a j ∷ P.factor j q ∷ []) ((v 0 ⊗ v 1) ⊗ v 2) (v 0 ⊗ (v 1 ⊗ v 2)) refl) ∙ sum_to-mul P.rows side (λ j. a j *ₙ P.factor j q) in
+    sum_to-same P.rows _ (λ j. side *ₙ (a j *ₙ P.factor j q)) (λ j m. by_ring (side ∷ a j ∷ P.factor j q ∷ []) ((v 0 ⊗ v 1) ⊗ v 2) (v 0 ⊗ (v 1 ⊗ v 2)) refl) ∙ sum_to-mul P.rows side (λ j. a j *ₙ P.factor j q) in
     ap (λ z. whole 0 +ₙ z) g ∙ by_ring (side ∷ sum_to P.rows (λ j. a j *ₙ P.factor j q) ∷ []) (k 0 ⊕ v 0 ⊗ v 1) (v 0 ⊗ (v 1 ⊕ k 0)) refl ∙ ap (λ z. side *ₙ z) (sym e)
 
 -- ---- the end at which a product is least
@@ -92,7 +92,7 @@ module _ (P : LinearProgram) (B : Boxes) (T : Tableau) (w : ℕ → Number) (r :
   outside_least j lj lu = elim (le_total (B (T.outside j)).high (B (T.outside j)).low) as (λ _. (side *ₙ T.cell r j) *ₙ w (T.outside j) ≡ least_product (side *ₙ T.cell r j) (B (T.outside j))) [
     | inl q ↦ let e : (B (T.outside j)).high ≡ (B (T.outside j)).low = le_antisymm (B (T.outside j)).high (B (T.outside j)).low q (b (T.outside j) lu) in
         least_fixed (side *ₙ T.cell r j) (w (T.outside j)) (B (T.outside j)) e
-          (elim (either_end P B T w o s j lj lu) as (λ _. w (T.outside j) ≡ (B (T.outside j)).low) [ inl x ↦ x ∙ e | inr x ↦ x ])
+        (elim (either_end P B T w o s j lj lu) as (λ _. w (T.outside j) ≡ (B (T.outside j)).low) [ inl x ↦ x ∙ e | inr x ↦ x ])
     | inr q ↦ elim (raised_sign (suc P.columns) (raised P T j)) as (λ _. (side *ₙ T.cell r j) *ₙ w (T.outside j) ≡ least_product (side *ₙ T.cell r j) (B (T.outside j))) [
       | nothing n ↦ absurd (raised_not_null P T o w s.solves j lj n)
       | down a ↦ ap (λ z. (side *ₙ T.cell r j) *ₙ z) (s.low j lj lu a) ∙ least_low (side *ₙ T.cell r j) (B (T.outside j)) (λ l. h.closed j (neg (whole 1)) lj (column lu q) minus_sign (to_minus (suc P.columns) (raised P T j) a) (turned side (T.cell r j) l))
@@ -135,12 +135,12 @@ module _ (P : LinearProgram) (B : Boxes) (T : Tableau) (w : ℕ → Number) (r :
 
       of_column : T.basic r < P.columns → side *ₙ near ≡ least_product side (B (T.basic r)) → bound_of (costless_program P) B y ≡ side *ₙ (near -ₙ w (T.basic r))
       of_column l e = whole_sum (side *ₙ near -ₙ side *ₙ w (T.basic r))
-            (sum_apart P.columns (T.basic r) (whole 1) (whole 0) (λ q. reduced_cost (costless_program P) y q *ₙ w q) (λ q. whole 0) (λ q. least_product (reduced_cost (costless_program P) y q) (B q)) l
-                (λ q m d. column_least q m d ∙ by_ring ((reduced_cost (costless_program P) y q *ₙ w q) ∷ []) (v 0) (k 1 ⊗ v 0 ⊕ k 0 ⊗ k 0) refl)
-              ∙ ap (λ z. (whole 1 *ₙ sum_to P.columns (λ q. reduced_cost (costless_program P) y q *ₙ w q) +ₙ whole 0 *ₙ sum_to P.columns (λ q. whole 0)) +ₙ (least_product z (B (T.basic r)) -ₙ (whole 1 *ₙ (z *ₙ w (T.basic r)) +ₙ whole 0 *ₙ whole 0))) (basic_reduced l)
-              ∙ ap (λ z. (whole 1 *ₙ sum_to P.columns (λ q. reduced_cost (costless_program P) y q *ₙ w q) +ₙ whole 0 *ₙ sum_to P.columns (λ q. whole 0)) +ₙ (z -ₙ (whole 1 *ₙ (side *ₙ w (T.basic r)) +ₙ whole 0 *ₙ whole 0))) (sym e)
-              ∙ by_ring (sum_to P.columns (λ q. reduced_cost (costless_program P) y q *ₙ w q) ∷ sum_to P.columns (λ q. whole 0) ∷ (side *ₙ near) ∷ (side *ₙ w (T.basic r)) ∷ [])
-                  ((k 1 ⊗ v 0 ⊕ k 0 ⊗ v 1) ⊕ (v 2 ⊖ (k 1 ⊗ v 3 ⊕ k 0 ⊗ k 0))) (v 0 ⊕ (v 2 ⊖ v 3)) refl)
+          (sum_apart P.columns (T.basic r) (whole 1) (whole 0) (λ q. reduced_cost (costless_program P) y q *ₙ w q) (λ q. whole 0) (λ q. least_product (reduced_cost (costless_program P) y q) (B q)) l
+          (λ q m d. column_least q m d ∙ by_ring ((reduced_cost (costless_program P) y q *ₙ w q) ∷ []) (v 0) (k 1 ⊗ v 0 ⊕ k 0 ⊗ k 0) refl)
+          ∙ ap (λ z. (whole 1 *ₙ sum_to P.columns (λ q. reduced_cost (costless_program P) y q *ₙ w q) +ₙ whole 0 *ₙ sum_to P.columns (λ q. whole 0)) +ₙ (least_product z (B (T.basic r)) -ₙ (whole 1 *ₙ (z *ₙ w (T.basic r)) +ₙ whole 0 *ₙ whole 0))) (basic_reduced l)
+          ∙ ap (λ z. (whole 1 *ₙ sum_to P.columns (λ q. reduced_cost (costless_program P) y q *ₙ w q) +ₙ whole 0 *ₙ sum_to P.columns (λ q. whole 0)) +ₙ (z -ₙ (whole 1 *ₙ (side *ₙ w (T.basic r)) +ₙ whole 0 *ₙ whole 0))) (sym e)
+          ∙ by_ring (sum_to P.columns (λ q. reduced_cost (costless_program P) y q *ₙ w q) ∷ sum_to P.columns (λ q. whole 0) ∷ (side *ₙ near) ∷ (side *ₙ w (T.basic r)) ∷ [])
+          ((k 1 ⊗ v 0 ⊕ k 0 ⊗ v 1) ⊕ (v 2 ⊖ (k 1 ⊗ v 3 ⊕ k 0 ⊗ k 0))) (v 0 ⊕ (v 2 ⊖ v 3)) refl)
           ∙ ap (λ z. z +ₙ (side *ₙ near -ₙ side *ₙ w (T.basic r))) (sum_zero P.rows _ (λ i m. left i m ∙ ap neg (slack_zero i m (λ e. absurd (omega (arith, e, l)))) ∙ by_ring [] (minus (k 0)) (k 0) refl))
           ∙ by_ring (side ∷ near ∷ w (T.basic r) ∷ []) (k 0 ⊕ (v 0 ⊗ v 1 ⊖ v 0 ⊗ v 2)) (v 0 ⊗ (v 1 ⊖ v 2)) refl
 
@@ -152,7 +152,7 @@ module _ (P : LinearProgram) (B : Boxes) (T : Tableau) (w : ℕ → Number) (r :
           minus_below = let g : 0 < 1 = omega arith in rw (whole-ratio 0 1 g, whole-ratio 1 1 g) (simp (overs, g) (omega arith))
       go (slack_end i l e u n) = whole_sum (whole 0) (sum_to-same P.columns _ _ (λ q m. column_least q m (λ x. absurd (omega (arith, x, e)))) ∙ by_ring (sum_to P.columns (λ q. reduced_cost (costless_program P) y q *ₙ w q) ∷ []) (v 0) (v 0 ⊕ k 0) refl)
           ∙ ap (λ z. z +ₙ whole 0) (sum_single P.rows i _ l (λ j m d. left j m ∙ ap neg (slack_zero j m (λ x. d (omega (arith, x, e)))) ∙ by_ring [] (minus (k 0)) (k 0) refl)
-              ∙ left i l ∙ ap (λ z. neg (side *ₙ z *ₙ w (P.columns + i))) (subst (λ z. coef T r z ≡ whole 1) e (coef_self P T o r (omega arith))))
+          ∙ left i l ∙ ap (λ z. neg (side *ₙ z *ₙ w (P.columns + i))) (subst (λ z. coef T r z ≡ whole 1) e (coef_self P T o r (omega arith))))
           ∙ by_ring (side ∷ w (P.columns + i) ∷ []) (minus (v 0 ⊗ k 1 ⊗ v 1) ⊕ k 0) (v 0 ⊗ (k 0 ⊖ v 1)) refl
           ∙ ap₂ (λ x z. side *ₙ (x -ₙ w z)) (sym n) (sym e)
 

@@ -1,26 +1,25 @@
 -- Ruled paths at the nodes of a problem, and what their tableaux show.
-use Rattle.std.proofs.Common.{◌≡◌, ℕ, zero, suc, ◌+◌, ◌<◌, ◌≤◌, ◌↔◌, ◌⊎◌, inl, inr, refl, sym, ◌∙◌, ap, ap₂, subst, arith, Bool, true, false, List, [], ◌∷◌, ◌++◌, length, take}
+use Rattle.std.proofs.Common.{◌≡◌, ℕ, zero, suc, ◌<◌, ◌≤◌, inl, inr, refl, sym, ◌∙◌, ap, subst, arith, Bool, true, false, List, [], ◌∷◌, ◌++◌, length, take}
 use Rattle.hys_number.specs.Number.{Number}
 use Rattle.hys_number.specs.Ops.{◌+ₙ◌, ◌*ₙ◌, neg, ◌≤ₙ◌, ◌<ₙ◌, whole}
-use Rattle.hys_number.specs.Sums.{sum_to}
 use Rattle.hys_number.proofs.Order.{le_refl', le_total}
 use Rattle.hys_number.proofs.Sums.{sum_to-same}
 use Rattle.hys_number.proofs.Scale.{overs, common1, common1_of}
 use Rattle.hys_number.proofs.Laws.{whole-ratio}
-use Rattle.hys_lin.specs.Sums.{Assignment, at, value, compared, Within, HoldAll}
+use Rattle.hys_lin.specs.Sums.{Assignment, at, value, compared, Within}
 use Rattle.hys_lin.specs.declared.problem.Problem.{Problem}
-use Rattle.hys_relax.specs.Node.{Boxes, IsProblem, IsNode, node_boxes, Inside, RelaxedPoint, IsLeastRelaxed}
-use Rattle.hys_relax.specs.LinearProgram.{LinearProgram, linear_program, costless_program, row_sum, cost_of, Meets}
-use Rattle.hys_relax.specs.Bound.{IsSigned, multiplier, AreMultipliers, AreLawful, bound_of, node_bound, costless, plain_bound}
+use Rattle.hys_relax.specs.Node.{Boxes, IsProblem, IsNode, node_boxes, IsLeastRelaxed}
+use Rattle.hys_relax.specs.LinearProgram.{LinearProgram, linear_program, cost_of, Meets}
+use Rattle.hys_relax.specs.Bound.{IsSigned, multiplier, AreLawful, bound_of, node_bound, costless, plain_bound}
 use Rattle.hys_relax.specs.declared.fixing.Fixing.{Fixing}
 use Rattle.hys_relax.proofs.Dense.{meets_is, cost_is as dense_cost}
 use Rattle.hys_relax.proofs.Nodes.{under_within, node_ordered, fixable, AreFixable}
 use Rattle.hys_relax.proofs.Bounds.{node_duality}
 use Rattle.hys_simplex.specs.Tableau.{Tableau, start, pivot, after, ArePivots, IsOf, cost_multiplier, row_multiplier}
-use Rattle.hys_simplex.specs.Status.{IsPositive, raised, IsDualFeasible, AllInside, status_value, status_point, values_to}
-use Rattle.hys_simplex.specs.Rule.{IsRuled, IsBlocked, IsStranded}
-use Rattle.hys_simplex.specs.Path.{RulesPath, IsRun, levels, IsPathAt, tableau_after, IsOutside, IsLawfulPath}
-use Rattle.hys_simplex.specs.Unfit.{pairs_to, cost_pairs, row_pairs}
+use Rattle.hys_simplex.specs.Status.{IsPositive, raised, IsDualFeasible, AllInside, status_value, status_point}
+use Rattle.hys_simplex.specs.Rule.{IsRuled, IsBlocked}
+use Rattle.hys_simplex.specs.Path.{RulesPath, IsRun, levels, IsPathAt, tableau_after, IsLawfulPath}
+use Rattle.hys_simplex.specs.Unfit.{cost_pairs, row_pairs}
 use Rattle.hys_simplex.proofs.Relations.{SignOf, HasSigns, IsOrdered, IsFeasible}
 use Rattle.hys_simplex.proofs.Places.{start_of}
 use Rattle.hys_simplex.proofs.Status.{status_bound, status_lawful, status_meets}
@@ -29,7 +28,7 @@ use Rattle.hys_simplex.proofs.Never.{never_above, never_lawful}
 use Rattle.hys_simplex.proofs.Ranges.{stands, range_of_all, feasible}
 use Rattle.hys_simplex.proofs.Rules.{none_enters, pivot_feasible, ruled_of}
 use Rattle.hys_simplex.proofs.Runs.{Kept, start_feasible, path_kept, path_pivots, AreNested, path_bound, pivot_bound, bound_same, start_multiplier}
-use Rattle.hys_simplex.proofs.Pairs.{pairs_are, are_multipliers, pairs_lawful, values_are, values_long}
+use Rattle.hys_simplex.proofs.Pairs.{pairs_are, pairs_lawful, values_are, values_long}
 
 -- ---- levels
 pub levels_ordered : (p : Problem) → IsProblem p → (fixings : List Fixing) (k : ℕ) → IsOrdered (length p.boxes) (levels p fixings k)
@@ -100,12 +99,12 @@ cost_bound p B T o = bound_same (linear_program p) B (multiplier (cost_pairs p T
 pub plain_under : (p : Problem) (fixings : List Fixing) (path : List (ℕ × ℕ)) → IsProblem p → IsNode p fixings → IsPathAt p fixings path → plain_bound p ≤ₙ node_bound p fixings (cost_pairs p (tableau_after p path))
 plain_under p fixings path h n r = subst (λ z. plain_bound p ≤ₙ z)
     (ap (λ z. bound_of (linear_program p) (node_boxes p z) (cost_multiplier (linear_program p) (tableau_after p path))) (take_whole fixings)
-      ∙ sym (bound_same (linear_program p) (node_boxes p fixings) (multiplier (cost_pairs p (tableau_after p path))) (cost_multiplier (linear_program p) (tableau_after p path)) (λ i l. pairs_are (length p.rows) (cost_multiplier (linear_program p) (tableau_after p path)) i l)))
+    ∙ sym (bound_same (linear_program p) (node_boxes p fixings) (multiplier (cost_pairs p (tableau_after p path))) (cost_multiplier (linear_program p) (tableau_after p path)) (λ i l. pairs_are (length p.rows) (cost_multiplier (linear_program p) (tableau_after p path)) i l)))
     (path_bound (linear_program p) (levels p fixings) 0 (length fixings) (start (linear_program p)) path (plain_bound p) (levels_ordered p h fixings) (levels_nested p h fixings n) (omega arith) r (start_of (linear_program p))
-      (subst (λ z. plain_bound p ≤ₙ z)
-        (ap (λ z. bound_of (linear_program p) (node_boxes p z) (multiplier [])) (sym (none fixings))
-          ∙ bound_same (linear_program p) (levels p fixings 0) (multiplier []) (cost_multiplier (linear_program p) (start (linear_program p))) (λ i l. sym (start_multiplier (linear_program p) i l)))
-        (le_refl' (plain_bound p))))
+    (subst (λ z. plain_bound p ≤ₙ z)
+    (ap (λ z. bound_of (linear_program p) (node_boxes p z) (multiplier [])) (sym (none fixings))
+    ∙ bound_same (linear_program p) (levels p fixings 0) (multiplier []) (cost_multiplier (linear_program p) (start (linear_program p))) (λ i l. sym (start_multiplier (linear_program p) i l)))
+    (le_refl' (plain_bound p))))
   where
     none : (xs : List Fixing) → take 0 xs ≡ []
     none [] = refl
@@ -114,19 +113,30 @@ plain_under p fixings path h n r = subst (λ z. plain_bound p ≤ₙ z)
 -- ---- a ruled path is lawful
 pub rules_lawful : (P : LinearProgram) (level : ℕ → Boxes) (from top : ℕ) (T : Tableau) (ps : List (ℕ × ℕ)) → ((k : ℕ) → IsOrdered P.columns (level k)) → RulesPath P level from top T ps → Kept P T → IsLawfulPath P level from top T ps
 rules_lawful P level from top T [] b h s = cost_signed P T s.of s.feasible
-rules_lawful P level from top T (p ∷ ps) b h s = (cost_signed P T s.of s.feasible, (h.0, h.1, h.2,
+rules_lawful P level from top T (p ∷ ps) b h s = (
+  cost_signed P T s.of s.feasible,
+  (
+    h.0,
+    h.1,
+    h.2,
     record { side = h.3.side; near = h.3.near; off = h.3.leaving.off },
     pivot_bound P (level h.0) T p.0 p.1 s.of (b h.0) h.3,
     rules_lawful P level h.0 top (pivot T p.0 p.1) ps b h.4
-      (record { of = ruled_of P (level h.0) T p.0 p.1 s.of h.3; feasible = pivot_feasible P (level h.0) T p.0 p.1 s.of (b h.0) h.3 s.feasible })))
+        (record { of = ruled_of P (level h.0) T p.0 p.1 s.of h.3; feasible = pivot_feasible P (level h.0) T p.0 p.1 s.of (b h.0) h.3 s.feasible }),
+  ),
+)
 
 -- ---- a path at a node is one at each node below, and goes on by a run
 lower_levels : (p : Problem) (fixings : List Fixing) (m from top : ℕ) (T : Tableau) (ps : List (ℕ × ℕ)) → top ≤ m → m ≤ length fixings → RulesPath (linear_program p) (levels p (take m fixings)) from top T ps →
     RulesPath (linear_program p) (levels p fixings) from (length fixings) T ps
 lower_levels p fixings m from top T [] l q h = tt
-lower_levels p fixings m from top T (x ∷ ps) l q h = let i : h.0 ≤ top = h.2 in (h.0, h.1, omega arith,
-    subst (λ z. IsRuled (linear_program p) (node_boxes p z) T x.0 x.1) (take_take h.0 m fixings (omega arith)) h.3,
-    lower_levels p fixings m h.0 top (pivot T x.0 x.1) ps l q h.4)
+lower_levels p fixings m from top T (x ∷ ps) l q h = let i : h.0 ≤ top = h.2 in (
+  h.0,
+  h.1,
+  omega arith,
+  subst (λ z. IsRuled (linear_program p) (node_boxes p z) T x.0 x.1) (take_take h.0 m fixings (omega arith)) h.3,
+  lower_levels p fixings m h.0 top (pivot T x.0 x.1) ps l q h.4,
+)
 
 length_take : {X : Type 0} (m : ℕ) (xs : List X) → m ≤ length xs → length (take m xs) ≡ m
 length_take zero [] l = refl

@@ -1,21 +1,20 @@
 -- The rule picks at most one pivot: the ratios of two columns that may enter differ.
-use Rattle.std.proofs.Common.{◌≡◌, ℕ, zero, suc, ◌+◌, ◌<◌, ◌≤◌, ◌⊎◌, inl, inr, refl, sym, ◌∙◌, ap, ap₂, subst, arith, Option, Some, None, List, [], ◌∷◌}
+use Rattle.std.proofs.Common.{◌≡◌, ℕ, suc, ◌+◌, ◌<◌, ◌≤◌, ◌⊎◌, inl, inr, refl, sym, ◌∙◌, ap, ap₂, subst, arith, [], ◌∷◌}
 use Rattle.hys_number.specs.Number.{Number}
 use Rattle.hys_number.specs.Ops.{◌+ₙ◌, ◌*ₙ◌, ◌-ₙ◌, neg, inverse, ◌≤ₙ◌, ◌<ₙ◌, whole}
-use Rattle.hys_number.proofs.Laws.{whole-ratio}
 use Rattle.hys_number.proofs.Scale.{overs, common3, common3_of}
 use Rattle.hys_number.proofs.Inverse.{mul_inverse}
 use Rattle.hys_number.proofs.Ring.{by_ring, v, k, minus, ◌⊕◌, ◌⊗◌, ◌⊖◌}
 use Rattle.hys_relax.specs.Node.{Boxes}
 use Rattle.hys_relax.specs.LinearProgram.{LinearProgram}
-use Rattle.hys_simplex.specs.Tableau.{Tableau, start, Solves, IsOf, unit}
-use Rattle.hys_simplex.specs.Status.{IsPositive, IsNull, Rises, edge, place_var, raised, lower, upper, at_most, IsOff, under, over, basic_value, status_value}
-use Rattle.hys_simplex.specs.Rule.{MayEnter, ratio, IsEntering, IsLeaving, IsRuled, raised_sign}
+use Rattle.hys_simplex.specs.Tableau.{Tableau, start, Solves, IsOf}
+use Rattle.hys_simplex.specs.Status.{edge, place_var, raised, lower, upper, at_most, IsOff, under, over, basic_value, status_value}
+use Rattle.hys_simplex.specs.Rule.{ratio, IsEntering, IsLeaving, IsRuled, raised_sign}
 use Rattle.hys_simplex.proofs.Relations.{IsOrdered, IsSign, square}
 use Rattle.hys_simplex.proofs.Pivots.{same_place}
 use Rattle.hys_simplex.proofs.Rows.{unit_yes, unit_no}
 use Rattle.hys_simplex.proofs.Places.{start_of}
-use Rattle.hys_simplex.proofs.Lex.{RaisedSign, down, nothing, up, raised_sign as sign_case, positive_same, one_not_zero, lt_irrefl}
+use Rattle.hys_simplex.proofs.Lex.{down, nothing, up, raised_sign as sign_case, positive_same, one_not_zero}
 use Rattle.hys_simplex.proofs.Edges.{line_linear, edge_flat, edge_outside, determined, IsFlat, flat_linear}
 use Rattle.hys_simplex.proofs.Rising.{cell_not_zero}
 use Rattle.hys_simplex.proofs.Ranges.{stands, off_sign, range_ordered}
@@ -57,7 +56,7 @@ ratios_differ P B T r c c' side o ss lc lc' n e = elim (same_place c c') as (λ 
 
     at_place : (t : ℕ) → t < suc P.columns → d (place_var P t) ≡ whole 0
     at_place t l = by_ring (a ∷ b ∷ edge T c (place_var P t) ∷ edge T c' (place_var P t) ∷ [])
-          (v 0 ⊗ v 2 ⊕ minus (v 1) ⊗ v 3) (k 1 ⊗ (minus (v 3) ⊗ v 1) ⊖ k 1 ⊗ (minus (v 2) ⊗ v 0)) refl
+        (v 0 ⊗ v 2 ⊕ minus (v 1) ⊗ v 3) (k 1 ⊗ (minus (v 3) ⊗ v 1) ⊖ k 1 ⊗ (minus (v 2) ⊗ v 0)) refl
         ∙ ap (λ z. z *ₙ (raised P T c' t *ₙ b) -ₙ z *ₙ (raised P T c t *ₙ a)) (sym (square ss))
         ∙ by_ring (side ∷ (raised P T c' t *ₙ b) ∷ (raised P T c t *ₙ a) ∷ []) ((v 0 ⊗ v 0) ⊗ v 1 ⊖ (v 0 ⊗ v 0) ⊗ v 2) (v 0 ⊗ (v 0 ⊗ v 1 ⊖ v 0 ⊗ v 2)) refl
         ∙ ap (λ z. side *ₙ (z -ₙ ratio P T r side c t)) (e t l) ∙ by_ring (side ∷ ratio P T r side c t ∷ []) (v 0 ⊗ (v 1 ⊖ v 1)) (k 0) refl
@@ -100,8 +99,11 @@ one_column P B T r c c' side o ss h g = elim (sign_case (suc P.columns) (λ t. r
 ]
 
 pub one_rule : (P : LinearProgram) (B : Boxes) (T : Tableau) (r c r' c' : ℕ) → IsOf P T → IsOrdered P.columns B → IsRuled P B T r c → IsRuled P B T r' c' → (r ≡ r') × (c ≡ c')
-one_rule P B T r c r' c' o b h g = (rows, one_column P B T r c c' h.side o (off_sign P B (T.basic r) (basic_value P B T r) h.side h.near h.leaving.off) h.entering
-    (subst (λ z. IsEntering P B T r z c') (sym sides) (subst (λ z. IsEntering P B T z g.side c') (sym rows) g.entering)))
+one_rule P B T r c r' c' o b h g = (
+  rows,
+  one_column P B T r c c' h.side o (off_sign P B (T.basic r) (basic_value P B T r) h.side h.near h.leaving.off) h.entering
+      (subst (λ z. IsEntering P B T r z c') (sym sides) (subst (λ z. IsEntering P B T z g.side c') (sym rows) g.entering)),
+)
   where
     rows : r ≡ r'
     rows = one_row P B T r r' h.side h.near g.side g.near h.leaving g.leaving

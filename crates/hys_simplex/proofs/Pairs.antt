@@ -1,20 +1,20 @@
 -- Multipliers as pairs, and points as lists.
-use Rattle.std.proofs.Common.{◌≡◌, ℕ, zero, suc, ◌+◌, ◌<◌, ◌≤◌, ◌⊎◌, inl, inr, refl, sym, ◌∙◌, ap, ap₂, subst, arith, Bool, true, false, cond, if◌then◌else◌, List, [], ◌∷◌, ◌++◌, length, map, get_or, ℤ, pos, negsuc}
+use Rattle.std.proofs.Common.{◌≡◌, ℕ, zero, suc, ◌<◌, ◌≤◌, ◌⊎◌, inl, inr, refl, sym, ◌∙◌, ap, subst, arith, Bool, true, false, cond, if◌then◌else◌, List, [], ◌∷◌, ◌++◌, length, get_or, ℤ, pos, negsuc}
 use Rattle.std.specs.Prelude.{nat_eq}
 use Rattle.std.specs.List.{AllByRecursion}
 use Rattle.std.proofs.lemmas.List.{length-append}
 use Rattle.hys_number.specs.Number.{Number}
-use Rattle.hys_number.specs.Ops.{◌+ₙ◌, ◌*ₙ◌, ◌≤ₙ◌, whole}
+use Rattle.hys_number.specs.Ops.{whole}
 use Rattle.hys_number.proofs.Inverse.{zero_num}
 use Rattle.hys_lin.specs.Sums.{at, AreTerms, EachColumn}
 use Rattle.hys_lin.specs.Scaled.{coefficient}
 use Rattle.hys_lin.specs.declared.form.Term.{Term}
 use Rattle.hys_lin.specs.declared.problem.Problem.{Problem}
 use Rattle.hys_lin.proofs.Lists.{each-append, each_more, terms-append}
-use Rattle.hys_relax.specs.LinearProgram.{linear_program, row_at}
-use Rattle.hys_relax.specs.Bound.{weights, multiplier, AreMultipliers, SignHolds, IsLawfulPair, AreLawful}
+use Rattle.hys_relax.specs.LinearProgram.{linear_program}
+use Rattle.hys_relax.specs.Bound.{weights, multiplier, AreMultipliers, IsLawfulPair, AreLawful}
 use Rattle.hys_relax.specs.Bound.{IsSigned}
-use Rattle.hys_relax.proofs.Dense.{own_column, other_column, coefficient_none}
+use Rattle.hys_relax.proofs.Dense.{own_column, other_column}
 use Rattle.hys_simplex.specs.Status.{values_to}
 use Rattle.hys_simplex.specs.Unfit.{not_zero, pairs_to}
 

@@ -1,5 +1,5 @@
 -- Tableaux of paths, and the values of their statuses.
-use Rattle.std.proofs.Common.{◌≡◌, ℕ, zero, suc, ◌+◌, ◌<◌, ◌≤◌, ◌↔◌, ◌⊎◌, inl, inr, refl, sym, ◌∙◌, ap, ap₂, subst, arith, List, [], ◌∷◌, ℤ, pos, negsuc, ◌==◌, if◌then◌else◌}
+use Rattle.std.proofs.Common.{◌≡◌, ℕ, zero, suc, ◌<◌, ◌≤◌, inl, inr, refl, sym, ◌∙◌, ap, ap₂, subst, arith, List, [], ◌∷◌, ℤ, pos, negsuc}
 use Rattle.hys_number.specs.Number.{Number}
 use Rattle.hys_number.specs.Sums.{sum_to}
 use Rattle.hys_number.specs.Ops.{neg, whole, ◌+ₙ◌, ◌*ₙ◌, ◌-ₙ◌, ◌≤ₙ◌, ◌<ₙ◌}
@@ -18,7 +18,7 @@ use Rattle.hys_simplex.proofs.Relations.{AtEnd, IsStatus, StandsAtEnds, raised_c
 use Rattle.hys_simplex.proofs.Rows.{unit_yes, unit_no}
 use Rattle.hys_simplex.proofs.Places.{start_of, pivot_of}
 use Rattle.hys_simplex.proofs.Status.{above_of, below_of, cost_is, status_bound}
-use Rattle.hys_simplex.proofs.Lex.{lt_le, lt_irrefl, raised_sign, above, down, nothing, up}
+use Rattle.hys_simplex.proofs.Lex.{lt_le, lt_irrefl, raised_sign, down, nothing, up}
 use Rattle.hys_simplex.proofs.Edges.{edge_basic}
 use Rattle.hys_simplex.proofs.Rising.{raised_not_null}
 use Rattle.hys_number.proofs.Ring.{by_ring, v, k, minus, ◌⊕◌, ◌⊗◌, ◌⊖◌}
@@ -36,17 +36,17 @@ values T x u = sum_to T.columns (λ j. unit (T.outside j) u *ₙ x j) +ₙ sum_t
 
 pub values_outside : (P : LinearProgram) (T : Tableau) → IsOf P T → (x : ℕ → Number) (j : ℕ) → j < P.columns → values T x (T.outside j) ≡ x j
 values_outside P T o x j l = ap₂ ◌+ₙ◌
-      (sum_single T.columns j (λ q. unit (T.outside q) (T.outside j) *ₙ x q) (rw o.wide l) (λ q m d. ap (λ z. z *ₙ x q) (unit_no (T.outside q) (T.outside j) (λ e. d (o.placed.once q j (rw (← o.wide) m) l (sym e)))) ∙ by_ring (x q ∷ []) (k 0 ⊗ v 0) (k 0) refl)
-        ∙ ap (λ z. z *ₙ x j) (unit_yes (T.outside j)))
-      (sum_zero (suc T.rows) _ (λ i m. ap (λ z. z *ₙ (T.cell i T.columns -ₙ sum_to T.columns (λ j. T.cell i j *ₙ x j))) (unit_no (T.basic i) (T.outside j) (λ e. o.placed.apart i j (omega (arith, o.tall)) l (sym e)))
-        ∙ by_ring ((T.cell i T.columns -ₙ sum_to T.columns (λ j. T.cell i j *ₙ x j)) ∷ []) (k 0 ⊗ v 0) (k 0) refl))
+    (sum_single T.columns j (λ q. unit (T.outside q) (T.outside j) *ₙ x q) (rw o.wide l) (λ q m d. ap (λ z. z *ₙ x q) (unit_no (T.outside q) (T.outside j) (λ e. d (o.placed.once q j (rw (← o.wide) m) l (sym e)))) ∙ by_ring (x q ∷ []) (k 0 ⊗ v 0) (k 0) refl)
+    ∙ ap (λ z. z *ₙ x j) (unit_yes (T.outside j)))
+    (sum_zero (suc T.rows) _ (λ i m. ap (λ z. z *ₙ (T.cell i T.columns -ₙ sum_to T.columns (λ j. T.cell i j *ₙ x j))) (unit_no (T.basic i) (T.outside j) (λ e. o.placed.apart i j (omega (arith, o.tall)) l (sym e)))
+    ∙ by_ring ((T.cell i T.columns -ₙ sum_to T.columns (λ j. T.cell i j *ₙ x j)) ∷ []) (k 0 ⊗ v 0) (k 0) refl))
     ∙ by_ring (x j ∷ []) (k 1 ⊗ v 0 ⊕ k 0) (v 0) refl
 
 pub values_basic : (P : LinearProgram) (T : Tableau) → IsOf P T → (x : ℕ → Number) (i : ℕ) → i ≤ P.rows → values T x (T.basic i) ≡ T.cell i T.columns -ₙ sum_to T.columns (λ j. T.cell i j *ₙ x j)
 values_basic P T o x i l = ap₂ ◌+ₙ◌
-      (sum_zero T.columns _ (λ q m. ap (λ z. z *ₙ x q) (unit_no (T.outside q) (T.basic i) (o.placed.apart i q l (rw (← o.wide) m))) ∙ by_ring (x q ∷ []) (k 0 ⊗ v 0) (k 0) refl))
-      (sum_single (suc T.rows) i (λ q. unit (T.basic q) (T.basic i) *ₙ rest q) (omega (arith, o.tall)) (λ q m d. ap (λ z. z *ₙ rest q) (unit_no (T.basic q) (T.basic i) (λ e. d (o.placed.basic_once q i (omega (arith, o.tall)) l (sym e)))) ∙ by_ring (rest q ∷ []) (k 0 ⊗ v 0) (k 0) refl)
-        ∙ ap (λ z. z *ₙ rest i) (unit_yes (T.basic i)))
+    (sum_zero T.columns _ (λ q m. ap (λ z. z *ₙ x q) (unit_no (T.outside q) (T.basic i) (o.placed.apart i q l (rw (← o.wide) m))) ∙ by_ring (x q ∷ []) (k 0 ⊗ v 0) (k 0) refl))
+    (sum_single (suc T.rows) i (λ q. unit (T.basic q) (T.basic i) *ₙ rest q) (omega (arith, o.tall)) (λ q m d. ap (λ z. z *ₙ rest q) (unit_no (T.basic q) (T.basic i) (λ e. d (o.placed.basic_once q i (omega (arith, o.tall)) l (sym e)))) ∙ by_ring (rest q ∷ []) (k 0 ⊗ v 0) (k 0) refl)
+    ∙ ap (λ z. z *ₙ rest i) (unit_yes (T.basic i)))
     ∙ by_ring (rest i ∷ []) (k 0 ⊕ k 1 ⊗ v 0) (v 0) refl
   where
     rest : ℕ → Number
@@ -114,4 +114,4 @@ pub bound_not_lowered : (P : LinearProgram) (B : Boxes) (T T' : Tableau) (w w' :
     Rises (suc P.columns) (raised_cost P w) (raised_cost P w') → bound_of P B (cost_multiplier P T) ≤ₙ bound_of P B (cost_multiplier P T')
 bound_not_lowered P B T T' w w' o o' s s' h =
     rw (status_bound P B T w o (raised_is_status P B T w o s) ∙ sym (cost_is P w ((o.keeps w).1 s.solves)), status_bound P B T' w' o' (raised_is_status P B T' w' o' s') ∙ sym (cost_is P w' ((o'.keeps w').1 s'.solves)))
-      (rises_first (suc P.columns) (raised_cost P w) (raised_cost P w') h)
+    (rises_first (suc P.columns) (raised_cost P w) (raised_cost P w') h)

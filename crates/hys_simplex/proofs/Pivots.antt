@@ -1,5 +1,5 @@
 -- A pivot keeps the solutions of the rows.
-use Rattle.std.proofs.Common.{◌≡◌, ℕ, zero, suc, ◌+◌, ◌<◌, ◌≤◌, ◌↔◌, ◌⊎◌, inl, inr, refl, sym, ◌∙◌, ap, ap₂, subst, arith, Bool, true, false, List, [], ◌∷◌, ◌==◌, if◌then◌else◌}
+use Rattle.std.proofs.Common.{◌≡◌, ℕ, ◌<◌, ◌↔◌, ◌⊎◌, inl, inr, refl, sym, ◌∙◌, ap, ap₂, subst, arith, [], ◌∷◌}
 use Rattle.hys_number.specs.Number.{Number}
 use Rattle.hys_number.specs.Sums.{sum_to}
 use Rattle.hys_number.specs.Ops.{neg, inverse, whole, ◌+ₙ◌, ◌*ₙ◌, ◌-ₙ◌, ◌/ₙ◌}
@@ -42,14 +42,14 @@ line_r T r c w l h =
     let f : ℕ → Number = λ j. T.cell r j *ₙ w (T.outside j) in
     let g : ℕ → Number = λ j. (pivot T r c).cell r j *ₙ w ((pivot T r c).outside j) in
     let s : sum_to T.columns g ≡ (ip *ₙ sum_to T.columns f +ₙ whole 0 *ₙ sum_to T.columns f) +ₙ (g c -ₙ (ip *ₙ f c +ₙ whole 0 *ₙ f c)) =
-          sum_apart T.columns c ip (whole 0) f f g l (λ j m d. ap₂ (λ y z. y *ₙ w z) (cell_r T.cell r c j d) (put_else T.outside c (T.basic r) j d)
-            ∙ by_ring (T.cell r j ∷ ip ∷ w (T.outside j) ∷ []) ((v 0 ⊗ v 1) ⊗ v 2) (v 1 ⊗ (v 0 ⊗ v 2) ⊕ k 0 ⊗ (v 0 ⊗ v 2)) refl) in
+    sum_apart T.columns c ip (whole 0) f f g l (λ j m d. ap₂ (λ y z. y *ₙ w z) (cell_r T.cell r c j d) (put_else T.outside c (T.basic r) j d)
+    ∙ by_ring (T.cell r j ∷ ip ∷ w (T.outside j) ∷ []) ((v 0 ⊗ v 1) ⊗ v 2) (v 1 ⊗ (v 0 ⊗ v 2) ⊕ k 0 ⊗ (v 0 ⊗ v 2)) refl) in
     let a : g c ≡ ip *ₙ w (T.basic r) = ap₂ (λ y z. y *ₙ w z) (cell_rc T.cell r c) (put_at T.outside c (T.basic r)) in
     let b : w ((pivot T r c).basic r) ≡ w (T.outside c) = ap w (put_at T.basic r (T.outside c)) in
     ap₂ ◌+ₙ◌ b (s ∙ ap (λ z. (ip *ₙ sum_to T.columns f +ₙ whole 0 *ₙ sum_to T.columns f) +ₙ (z -ₙ (ip *ₙ f c +ₙ whole 0 *ₙ f c))) a)
     ∙ by_ring (w (T.outside c) ∷ ip ∷ sum_to T.columns f ∷ w (T.basic r) ∷ T.cell r c ∷ [])
-        (v 0 ⊕ ((v 1 ⊗ v 2 ⊕ k 0 ⊗ v 2) ⊕ (v 1 ⊗ v 3 ⊖ (v 1 ⊗ (v 4 ⊗ v 0) ⊕ k 0 ⊗ (v 4 ⊗ v 0)))))
-        (v 1 ⊗ (v 3 ⊕ v 2) ⊕ (k 1 ⊖ v 4 ⊗ v 1) ⊗ v 0) refl
+    (v 0 ⊕ ((v 1 ⊗ v 2 ⊕ k 0 ⊗ v 2) ⊕ (v 1 ⊗ v 3 ⊖ (v 1 ⊗ (v 4 ⊗ v 0) ⊕ k 0 ⊗ (v 4 ⊗ v 0)))))
+    (v 1 ⊗ (v 3 ⊕ v 2) ⊕ (k 1 ⊖ v 4 ⊗ v 1) ⊗ v 0) refl
     ∙ ap (λ z. ip *ₙ (w (T.basic r) +ₙ sum_to T.columns f) +ₙ (whole 1 -ₙ z) *ₙ w (T.outside c)) (mul_inverse (T.cell r c) h)
     ∙ by_ring ((ip *ₙ (w (T.basic r) +ₙ sum_to T.columns f)) ∷ w (T.outside c) ∷ []) (v 0 ⊕ (k 1 ⊖ k 1) ⊗ v 1) (v 0) refl
 
@@ -63,14 +63,14 @@ line_other T r c w i l h d =
     let e : ℕ → Number = λ j. T.cell r j *ₙ w (T.outside j) in
     let g : ℕ → Number = λ j. (pivot T r c).cell i j *ₙ w ((pivot T r c).outside j) in
     let s : sum_to T.columns g ≡ (whole 1 *ₙ sum_to T.columns f +ₙ neg (t *ₙ ip) *ₙ sum_to T.columns e) +ₙ (g c -ₙ (whole 1 *ₙ f c +ₙ neg (t *ₙ ip) *ₙ e c)) =
-          sum_apart T.columns c (whole 1) (neg (t *ₙ ip)) f e g l (λ j m q. ap₂ (λ y z. y *ₙ w z) (cell_other T.cell r c i j d q) (put_else T.outside c (T.basic r) j q)
-            ∙ by_ring (T.cell i j ∷ t ∷ T.cell r j ∷ ip ∷ w (T.outside j) ∷ []) ((v 0 ⊖ v 1 ⊗ (v 2 ⊗ v 3)) ⊗ v 4) (k 1 ⊗ (v 0 ⊗ v 4) ⊕ minus (v 1 ⊗ v 3) ⊗ (v 2 ⊗ v 4)) refl) in
+    sum_apart T.columns c (whole 1) (neg (t *ₙ ip)) f e g l (λ j m q. ap₂ (λ y z. y *ₙ w z) (cell_other T.cell r c i j d q) (put_else T.outside c (T.basic r) j q)
+    ∙ by_ring (T.cell i j ∷ t ∷ T.cell r j ∷ ip ∷ w (T.outside j) ∷ []) ((v 0 ⊖ v 1 ⊗ (v 2 ⊗ v 3)) ⊗ v 4) (k 1 ⊗ (v 0 ⊗ v 4) ⊕ minus (v 1 ⊗ v 3) ⊗ (v 2 ⊗ v 4)) refl) in
     let a : g c ≡ (t *ₙ neg ip) *ₙ w (T.basic r) = ap₂ (λ y z. y *ₙ w z) (cell_c T.cell r c i d ∙ ap (λ z. t *ₙ z) (inverse-neg p h)) (put_at T.outside c (T.basic r)) in
     let b : w ((pivot T r c).basic i) ≡ w (T.basic i) = ap w (put_else T.basic r (T.outside c) i d) in
     ap₂ ◌+ₙ◌ b (s ∙ ap (λ z. (whole 1 *ₙ sum_to T.columns f +ₙ neg (t *ₙ ip) *ₙ sum_to T.columns e) +ₙ (z -ₙ (whole 1 *ₙ f c +ₙ neg (t *ₙ ip) *ₙ e c))) a)
     ∙ by_ring (w (T.basic i) ∷ sum_to T.columns f ∷ t ∷ ip ∷ sum_to T.columns e ∷ w (T.basic r) ∷ w (T.outside c) ∷ p ∷ [])
-        (v 0 ⊕ ((k 1 ⊗ v 1 ⊕ minus (v 2 ⊗ v 3) ⊗ v 4) ⊕ ((v 2 ⊗ minus (v 3)) ⊗ v 5 ⊖ (k 1 ⊗ (v 2 ⊗ v 6) ⊕ minus (v 2 ⊗ v 3) ⊗ (v 7 ⊗ v 6)))))
-        (((v 0 ⊕ v 1) ⊖ (v 2 ⊗ v 3) ⊗ (v 5 ⊕ v 4)) ⊕ (v 7 ⊗ v 3 ⊖ k 1) ⊗ (v 2 ⊗ v 6)) refl
+    (v 0 ⊕ ((k 1 ⊗ v 1 ⊕ minus (v 2 ⊗ v 3) ⊗ v 4) ⊕ ((v 2 ⊗ minus (v 3)) ⊗ v 5 ⊖ (k 1 ⊗ (v 2 ⊗ v 6) ⊕ minus (v 2 ⊗ v 3) ⊗ (v 7 ⊗ v 6)))))
+    (((v 0 ⊕ v 1) ⊖ (v 2 ⊗ v 3) ⊗ (v 5 ⊕ v 4)) ⊕ (v 7 ⊗ v 3 ⊖ k 1) ⊗ (v 2 ⊗ v 6)) refl
     ∙ ap (λ z. (line T w i -ₙ (t *ₙ ip) *ₙ line T w r) +ₙ (z -ₙ whole 1) *ₙ (t *ₙ w (T.outside c))) (mul_inverse p h)
     ∙ by_ring ((line T w i -ₙ (t *ₙ ip) *ₙ line T w r) ∷ (t *ₙ w (T.outside c)) ∷ []) (v 0 ⊕ (k 1 ⊖ k 1) ⊗ v 1) (v 0) refl
 

@@ -1,12 +1,12 @@
 -- Where the variables stand, and their factors.
-use Rattle.std.proofs.Common.{◌≡◌, ℕ, zero, suc, ◌+◌, ◌-◌, ◌<◌, ◌≤◌, ◌↔◌, ◌⊎◌, inl, inr, refl, sym, ◌∙◌, ap, ap₂, subst, arith, Bool, true, false, List, [], ◌∷◌, ◌==◌, if◌then◌else◌}
+use Rattle.std.proofs.Common.{◌≡◌, ℕ, ◌+◌, ◌-◌, ◌<◌, ◌≤◌, ◌↔◌, ◌⊎◌, inl, inr, refl, sym, ◌∙◌, ap, ap₂, subst, arith, [], ◌∷◌}
 use Rattle.hys_number.specs.Ops.{whole, ◌+ₙ◌, ◌*ₙ◌}
 use Rattle.hys_relax.proofs.Sums.{sum_zero, sum_single}
 use Rattle.hys_relax.specs.LinearProgram.{LinearProgram}
 use Rattle.hys_simplex.specs.Tableau.{Tableau, start, put, pivot, Solves, unit, coef, IsPlaced, IsOf}
 use Rattle.hys_simplex.proofs.Pivots.{put_at, put_else, same_place, pivot_keeps}
 use Rattle.hys_simplex.proofs.Rows.{unit_yes, unit_no, start_is_mix, pivot_is_mix}
-use Rattle.hys_number.proofs.Ring.{by_ring, v, k, minus, ◌⊕◌, ◌⊗◌}
+use Rattle.hys_number.proofs.Ring.{by_ring, v, k, ◌⊕◌, ◌⊗◌}
 
 pub start_placed : (P : LinearProgram) → IsPlaced P.columns P.rows (start P)
 start_placed P = record {
@@ -108,13 +108,13 @@ pivot_of P T r c lr lc h s =
 -- ---- the factor of a variable that stands outside, and of one that is basic
 pub coef_outside : (P : LinearProgram) (T : Tableau) → IsOf P T → (i j : ℕ) → i ≤ P.rows → j < P.columns → coef T i (T.outside j) ≡ T.cell i j
 coef_outside P T s i j li lj = ap₂ ◌+ₙ◌ (unit_no (T.outside j) (T.basic i) (s.placed.apart i j li lj))
-      (sum_single T.columns j (λ q. T.cell i q *ₙ unit (T.outside j) (T.outside q)) (rw s.wide lj)
-        (λ q m d. ap (λ z. T.cell i q *ₙ z) (unit_no (T.outside j) (T.outside q) (λ e. d (s.placed.once q j (rw (← s.wide) m) lj e))) ∙ by_ring (T.cell i q ∷ []) (v 0 ⊗ k 0) (k 0) refl)
-       ∙ ap (λ z. T.cell i j *ₙ z) (unit_yes (T.outside j)))
+    (sum_single T.columns j (λ q. T.cell i q *ₙ unit (T.outside j) (T.outside q)) (rw s.wide lj)
+    (λ q m d. ap (λ z. T.cell i q *ₙ z) (unit_no (T.outside j) (T.outside q) (λ e. d (s.placed.once q j (rw (← s.wide) m) lj e))) ∙ by_ring (T.cell i q ∷ []) (v 0 ⊗ k 0) (k 0) refl)
+    ∙ ap (λ z. T.cell i j *ₙ z) (unit_yes (T.outside j)))
     ∙ by_ring (T.cell i j ∷ []) (k 0 ⊕ v 0 ⊗ k 1) (v 0) refl
 
 pub coef_basic : (P : LinearProgram) (T : Tableau) → IsOf P T → (i i' : ℕ) → i ≤ P.rows → i' ≤ P.rows → ¬ (i ≡ i') → coef T i (T.basic i') ≡ whole 0
 coef_basic P T s i i' li li' d = ap₂ ◌+ₙ◌ (unit_no (T.basic i') (T.basic i) (λ e. d (s.placed.basic_once i i' li li' e)))
-      (sum_zero T.columns (λ q. T.cell i q *ₙ unit (T.basic i') (T.outside q))
-        (λ q m. ap (λ z. T.cell i q *ₙ z) (unit_no (T.basic i') (T.outside q) (λ e. s.placed.apart i' q li' (rw (← s.wide) m) (sym e))) ∙ by_ring (T.cell i q ∷ []) (v 0 ⊗ k 0) (k 0) refl))
+    (sum_zero T.columns (λ q. T.cell i q *ₙ unit (T.basic i') (T.outside q))
+    (λ q m. ap (λ z. T.cell i q *ₙ z) (unit_no (T.basic i') (T.outside q) (λ e. s.placed.apart i' q li' (rw (← s.wide) m) (sym e))) ∙ by_ring (T.cell i q ∷ []) (v 0 ⊗ k 0) (k 0) refl))
     ∙ by_ring [] (k 0 ⊕ k 0) (k 0) refl

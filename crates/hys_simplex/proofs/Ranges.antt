@@ -1,22 +1,21 @@
 -- The ranges of variables and the values of a status, given by functions, are those of the relations.
-use Rattle.std.proofs.Common.{◌≡◌, ℕ, zero, suc, ◌+◌, ◌-◌, ◌<◌, ◌≤◌, ◌↔◌, ◌⊎◌, inl, inr, refl, sym, ◌∙◌, ap, ap₂, subst, arith, Bool, true, false, if◌then◌else◌, ltb, Option, Some, None, ℤ, pos, negsuc, List, [], ◌∷◌, ◌++◌, length}
+use Rattle.std.proofs.Common.{◌≡◌, ℕ, zero, suc, ◌+◌, ◌-◌, ◌<◌, ◌≤◌, inl, inr, refl, sym, ◌∙◌, ap, ap₂, subst, arith, Bool, true, false, if◌then◌else◌, ltb, Option, Some, None, ℤ, pos, negsuc, [], ◌∷◌}
 use Rattle.hys_number.specs.Number.{Number}
 use Rattle.hys_number.specs.Ops.{◌+ₙ◌, ◌*ₙ◌, ◌-ₙ◌, neg, ◌≤ₙ◌, ◌<ₙ◌, whole}
 use Rattle.hys_number.proofs.Laws.{whole-ratio}
-use Rattle.hys_number.proofs.Order.{le_refl', le_total, le_antisymm}
+use Rattle.hys_number.proofs.Order.{le_refl', le_antisymm}
 use Rattle.hys_number.proofs.Scale.{overs, common2, common2_of}
-use Rattle.hys_number.proofs.Ring.{by_ring, v, k, minus, ◌⊕◌, ◌⊗◌, ◌⊖◌}
+use Rattle.hys_number.proofs.Ring.{by_ring, v, k, minus, ◌⊗◌, ◌⊖◌}
 use Rattle.hys_relax.specs.Node.{Boxes}
 use Rattle.hys_relax.specs.LinearProgram.{LinearProgram}
-use Rattle.hys_simplex.specs.Tableau.{Tableau, Solves, IsOf}
-use Rattle.hys_simplex.specs.Status.{IsPositive, IsNull, raised, first_sign, is_positive, is_raised_above, lower, upper, at_most, InRange, IsOff, under, over, end_or, end_value, basic_value, status_value, AllInside}
+use Rattle.hys_simplex.specs.Tableau.{Tableau, IsOf}
+use Rattle.hys_simplex.specs.Status.{IsPositive, raised, first_sign, is_positive, is_raised_above, lower, upper, at_most, InRange, IsOff, under, over, end_or, end_value, basic_value, status_value, AllInside}
 use Rattle.hys_simplex.specs.Rule.{IsMovable}
 use Rattle.hys_simplex.proofs.Relations.{StandsAtEnds, CanMove, column, slack, IsSign, NearEnd, low_end, high_end, slack_end, IsOrdered, IsFeasible, SlackIn}
 use Rattle.hys_simplex.proofs.Status.{zero_of, above_of, below_of}
-use Rattle.hys_simplex.proofs.Lex.{RaisedSign, down, nothing, up, raised_sign, lt_irrefl, lt_not_le, positive_add, positive_not_null}
-use Rattle.hys_simplex.proofs.Rising.{raised_not_null}
+use Rattle.hys_simplex.proofs.Lex.{lt_irrefl, positive_add, positive_not_null}
 use Rattle.hys_simplex.proofs.Ruled.{cases}
-use Rattle.hys_simplex.proofs.Paths.{values, values_outside, values_basic, values_solve}
+use Rattle.hys_simplex.proofs.Paths.{values_outside, values_basic, values_solve}
 
 -- ---- the test of being positive
 not_both : (a : Number) → a <ₙ whole 0 → whole 0 <ₙ a → ⊥

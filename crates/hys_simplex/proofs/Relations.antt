@@ -1,14 +1,14 @@
 -- Statuses and pivots of the rule as relations, in the form in which the laws are proved.
-use Rattle.std.specs.Prelude.{◌≡◌, ℕ, suc, ◌+◌, ◌<◌, ◌≤◌, Bool, true, false, ◌⊎◌, ◌↔◌, ℤ, pos, negsuc, zero, List, []}
-use Rattle.std.proofs.Common.{◌∙◌, refl, ap, ap₂, ⊎_elim, inl, inr}
+use Rattle.std.specs.Prelude.{◌≡◌, ℕ, suc, ◌+◌, ◌<◌, Bool, true, false, ◌⊎◌, ◌↔◌, ℤ, pos, negsuc, zero, []}
+use Rattle.std.proofs.Common.{◌∙◌, refl, ap₂, inl, inr}
 use Rattle.hys_number.specs.Number.{Number}
-use Rattle.hys_number.specs.Ops.{◌+ₙ◌, ◌*ₙ◌, ◌-ₙ◌, neg, ◌≤ₙ◌, ◌<ₙ◌, whole}
-use Rattle.hys_number.proofs.Ring.{by_ring, v, k, minus, ◌⊗◌}
+use Rattle.hys_number.specs.Ops.{◌*ₙ◌, ◌-ₙ◌, neg, ◌≤ₙ◌, ◌<ₙ◌, whole}
+use Rattle.hys_number.proofs.Ring.{by_ring, k, minus, ◌⊗◌}
 use Rattle.hys_lin.specs.declared.form.Interval.{Interval}
 use Rattle.hys_relax.specs.Node.{Boxes, Inside}
 use Rattle.hys_relax.specs.LinearProgram.{LinearProgram}
 use Rattle.hys_simplex.specs.Tableau.{Tableau, Solves}
-use Rattle.hys_simplex.specs.Status.{IsPositive, Rises, raised, place_var}
+use Rattle.hys_simplex.specs.Status.{IsPositive, raised, place_var}
 
 -- ---- by cost cells
 -- the end at which a column outside the basis stands, by the sign of its cost cell

@@ -1,11 +1,11 @@
 -- The raised cost rises at a pivot of the rule.
-use Rattle.std.proofs.Common.{◌≡◌, ℕ, zero, suc, ◌+◌, ◌*◌, ◌-◌, ◌<◌, ◌≤◌, ◌↔◌, ◌⊎◌, inl, inr, refl, sym, ◌∙◌, ap, ap₂, subst, arith, List, [], ◌∷◌, ◌==◌, if◌then◌else◌, Bool, true, false}
+use Rattle.std.proofs.Common.{◌≡◌, ℕ, zero, suc, ◌+◌, ◌<◌, ◌≤◌, ◌⊎◌, inl, inr, refl, sym, ◌∙◌, ap, ap₂, arith, [], ◌∷◌}
 use Rattle.hys_number.specs.Number.{Number}
 use Rattle.hys_number.specs.Ops.{neg, inverse, whole, ◌+ₙ◌, ◌*ₙ◌, ◌-ₙ◌, ◌<ₙ◌}
 use Rattle.hys_number.proofs.Inverse.{mul_inverse}
 use Rattle.hys_relax.specs.LinearProgram.{LinearProgram}
 use Rattle.hys_relax.specs.Node.{Boxes}
-use Rattle.hys_simplex.specs.Tableau.{Tableau, start, pivot, Solves, IsOf, after}
+use Rattle.hys_simplex.specs.Tableau.{Tableau, start, pivot, Solves, IsOf}
 use Rattle.hys_simplex.specs.Status.{IsPositive, IsNull, Rises, edge, place_var, raised}
 use Rattle.hys_simplex.proofs.Relations.{CanMove, IsSign, square, KeepsRule, raised_cost}
 use Rattle.hys_simplex.proofs.Rows.{unit_yes}
@@ -80,18 +80,18 @@ module _ (P : LinearProgram) (B : Boxes) (T : Tableau) (w : ℕ → Number) (r c
   pub leaving_end : IsPositive (suc P.columns) (λ t. neg side *ₙ raised P (pivot T r c) c t)
   leaving_end = positive_same (suc P.columns) (λ t. inverse (side *ₙ dir *ₙ T.cell r c) *ₙ (dir *ₙ raised P T c t)) _
       (λ t l. ap (λ z. z *ₙ (dir *ₙ raised P T c t)) inv_is
-        ∙ by_ring (side ∷ dir ∷ inverse (T.cell r c) ∷ raised P T c t ∷ []) ((v 0 ⊗ v 1 ⊗ v 2) ⊗ (v 1 ⊗ v 3)) ((v 1 ⊗ v 1) ⊗ (minus (v 0) ⊗ (minus (v 2) ⊗ v 3))) refl
-        ∙ ap₂ (λ y z. y *ₙ (neg side *ₙ z)) (square h.dir_sign) (sym (raised_entering P T r c o lr lc p_not t l)) ∙ by_ring (neg side ∷ raised P (pivot T r c) c t ∷ []) (k 1 ⊗ (v 0 ⊗ v 1)) (v 0 ⊗ v 1) refl)
+      ∙ by_ring (side ∷ dir ∷ inverse (T.cell r c) ∷ raised P T c t ∷ []) ((v 0 ⊗ v 1 ⊗ v 2) ⊗ (v 1 ⊗ v 3)) ((v 1 ⊗ v 1) ⊗ (minus (v 0) ⊗ (minus (v 2) ⊗ v 3))) refl
+      ∙ ap₂ (λ y z. y *ₙ (neg side *ₙ z)) (square h.dir_sign) (sym (raised_entering P T r c o lr lc p_not t l)) ∙ by_ring (neg side ∷ raised P (pivot T r c) c t ∷ []) (k 1 ⊗ (v 0 ⊗ v 1)) (v 0 ⊗ v 1) refl)
       (positive_scale (suc P.columns) (inverse (side *ₙ dir *ₙ T.cell r c)) (λ t. dir *ₙ raised P T c t) (inverse_above (side *ₙ dir *ₙ T.cell r c) h.toward) h.stands)
 
   -- the others that may move keep their signs
   pub sign_kept : (j : ℕ) (d : Number) → j < P.columns → ¬ (j ≡ c) → CanMove P B T j → IsSign d → IsPositive (suc P.columns) (λ t. d *ₙ raised P T j t) → IsPositive (suc P.columns) (λ t. d *ₙ raised P (pivot T r c) j t)
   sign_kept j d lj dj m sd pj = positive_same (suc P.columns) _ _ step
       (ratio_keeps (suc P.columns) (λ t. d *ₙ raised P T j t) (λ t. dir *ₙ raised P T c t) (side *ₙ d *ₙ T.cell r j) (side *ₙ dir *ₙ T.cell r c) pj h.stands h.toward
-        (λ l. h.least j d lj dj m sd pj l)
-        (λ n. raised_not_null P (pivot T r c) (pivot_of P T r c lr lc p_not o) w ((o'.keeps w).0 ((o.keeps w).1 s)) j lj
-          (λ t l. by_ring (raised P (pivot T r c) j t ∷ []) (v 0) (k 1 ⊗ v 0) refl ∙ ap (λ z. z *ₙ raised P (pivot T r c) j t) (sym (square sd)) ∙ by_ring (d ∷ raised P (pivot T r c) j t ∷ []) ((v 0 ⊗ v 0) ⊗ v 1) (v 0 ⊗ (v 0 ⊗ v 1)) refl
-            ∙ ap (λ z. d *ₙ z) (sym (step t l) ∙ n t l) ∙ by_ring (d ∷ []) (v 0 ⊗ k 0) (k 0) refl)))
+      (λ l. h.least j d lj dj m sd pj l)
+      (λ n. raised_not_null P (pivot T r c) (pivot_of P T r c lr lc p_not o) w ((o'.keeps w).0 ((o.keeps w).1 s)) j lj
+      (λ t l. by_ring (raised P (pivot T r c) j t ∷ []) (v 0) (k 1 ⊗ v 0) refl ∙ ap (λ z. z *ₙ raised P (pivot T r c) j t) (sym (square sd)) ∙ by_ring (d ∷ raised P (pivot T r c) j t ∷ []) ((v 0 ⊗ v 0) ⊗ v 1) (v 0 ⊗ (v 0 ⊗ v 1)) refl
+      ∙ ap (λ z. d *ₙ z) (sym (step t l) ∙ n t l) ∙ by_ring (d ∷ []) (v 0 ⊗ k 0) (k 0) refl)))
     where
       o' : IsOf P (pivot T r c)
       o' = pivot_of P T r c lr lc p_not o
@@ -99,8 +99,8 @@ module _ (P : LinearProgram) (B : Boxes) (T : Tableau) (w : ℕ → Number) (r c
       step : (t : ℕ) → t < suc P.columns → d *ₙ raised P T j t -ₙ (dir *ₙ raised P T c t *ₙ inverse (side *ₙ dir *ₙ T.cell r c)) *ₙ (side *ₙ d *ₙ T.cell r j) ≡ d *ₙ raised P (pivot T r c) j t
       step t l = ap (λ z. d *ₙ raised P T j t -ₙ (dir *ₙ raised P T c t *ₙ z) *ₙ (side *ₙ d *ₙ T.cell r j)) inv_is
           ∙ by_ring (d ∷ raised P T j t ∷ dir ∷ raised P T c t ∷ side ∷ inverse (T.cell r c) ∷ T.cell r j ∷ [])
-              (v 0 ⊗ v 1 ⊖ (v 2 ⊗ v 3 ⊗ (v 4 ⊗ v 2 ⊗ v 5)) ⊗ (v 4 ⊗ v 0 ⊗ v 6))
-              (v 0 ⊗ v 1 ⊖ (v 2 ⊗ v 2) ⊗ ((v 4 ⊗ v 4) ⊗ (v 0 ⊗ ((v 5 ⊗ v 6) ⊗ v 3)))) refl
+          (v 0 ⊗ v 1 ⊖ (v 2 ⊗ v 3 ⊗ (v 4 ⊗ v 2 ⊗ v 5)) ⊗ (v 4 ⊗ v 0 ⊗ v 6))
+          (v 0 ⊗ v 1 ⊖ (v 2 ⊗ v 2) ⊗ ((v 4 ⊗ v 4) ⊗ (v 0 ⊗ ((v 5 ⊗ v 6) ⊗ v 3)))) refl
           ∙ ap₂ (λ y z. d *ₙ raised P T j t -ₙ y *ₙ (z *ₙ (d *ₙ ((inverse (T.cell r c) *ₙ T.cell r j) *ₙ raised P T c t)))) (square h.dir_sign) (square h.side_sign)
           ∙ by_ring (d ∷ raised P T j t ∷ ((inverse (T.cell r c) *ₙ T.cell r j) *ₙ raised P T c t) ∷ []) (v 0 ⊗ v 1 ⊖ k 1 ⊗ (k 1 ⊗ (v 0 ⊗ v 2))) (v 0 ⊗ (v 1 ⊖ v 2)) refl
           ∙ ap (λ z. d *ₙ z) (sym (raised_else P T r c o lr lc p_not j lj dj t l))
@@ -110,12 +110,12 @@ module _ (P : LinearProgram) (B : Boxes) (T : Tableau) (w : ℕ → Number) (r c
       Rises (suc P.columns) (raised_cost P w) (raised_cost P w')
   cost_rises w' s' same e = positive_same (suc P.columns) (λ t. κ *ₙ (dir *ₙ raised P T c t)) _
       (λ t l. ap (λ z. (side *ₙ (near -ₙ w (T.basic r)) *ₙ z) *ₙ (dir *ₙ raised P T c t)) inv_is
-        ∙ by_ring (side ∷ (near -ₙ w (T.basic r)) ∷ dir ∷ inverse (T.cell r c) ∷ edge T c (place_var P t) ∷ [])
-            ((v 0 ⊗ v 1 ⊗ (v 0 ⊗ v 2 ⊗ v 3)) ⊗ (v 2 ⊗ minus (v 4))) ((v 0 ⊗ v 0) ⊗ ((v 2 ⊗ v 2) ⊗ ((v 1 ⊗ v 3) ⊗ minus (v 4)))) refl
-        ∙ ap₂ (λ y z. y *ₙ (z *ₙ (((near -ₙ w (T.basic r)) *ₙ inverse (T.cell r c)) *ₙ neg (edge T c (place_var P t))))) (square h.side_sign) (square h.dir_sign)
-        ∙ ap (λ z. whole 1 *ₙ (whole 1 *ₙ (z *ₙ neg (edge T c (place_var P t))))) turned
-        ∙ by_ring (τ ∷ edge T c (place_var P t) ∷ w (place_var P t) ∷ []) (k 1 ⊗ (k 1 ⊗ (minus (v 0) ⊗ minus (v 1)))) ((k 1 ⊗ v 2 ⊕ v 0 ⊗ v 1) ⊖ v 2) refl
-        ∙ ap (λ z. z -ₙ w (place_var P t)) (sym (moves (place_var P t) (place_in P t l))))
+      ∙ by_ring (side ∷ (near -ₙ w (T.basic r)) ∷ dir ∷ inverse (T.cell r c) ∷ edge T c (place_var P t) ∷ [])
+      ((v 0 ⊗ v 1 ⊗ (v 0 ⊗ v 2 ⊗ v 3)) ⊗ (v 2 ⊗ minus (v 4))) ((v 0 ⊗ v 0) ⊗ ((v 2 ⊗ v 2) ⊗ ((v 1 ⊗ v 3) ⊗ minus (v 4)))) refl
+      ∙ ap₂ (λ y z. y *ₙ (z *ₙ (((near -ₙ w (T.basic r)) *ₙ inverse (T.cell r c)) *ₙ neg (edge T c (place_var P t))))) (square h.side_sign) (square h.dir_sign)
+      ∙ ap (λ z. whole 1 *ₙ (whole 1 *ₙ (z *ₙ neg (edge T c (place_var P t))))) turned
+      ∙ by_ring (τ ∷ edge T c (place_var P t) ∷ w (place_var P t) ∷ []) (k 1 ⊗ (k 1 ⊗ (minus (v 0) ⊗ minus (v 1)))) ((k 1 ⊗ v 2 ⊕ v 0 ⊗ v 1) ⊖ v 2) refl
+      ∙ ap (λ z. z -ₙ w (place_var P t)) (sym (moves (place_var P t) (place_in P t l))))
       (positive_scale (suc P.columns) κ (λ t. dir *ₙ raised P T c t) (mul_above (side *ₙ (near -ₙ w (T.basic r))) (inverse (side *ₙ dir *ₙ T.cell r c)) h.off (inverse_above (side *ₙ dir *ₙ T.cell r c) h.toward)) h.stands)
     where
       κ : Number

@@ -1,5 +1,5 @@
 -- Each row of a tableau is a sum of the start's rows.
-use Rattle.std.proofs.Common.{◌≡◌, ℕ, zero, suc, ◌+◌, ◌<◌, ◌≤◌, ◌↔◌, ◌⊎◌, inl, inr, refl, sym, ◌∙◌, ap, ap₂, subst, arith, Bool, true, false, List, [], ◌∷◌, ◌==◌, if◌then◌else◌}
+use Rattle.std.proofs.Common.{◌≡◌, ℕ, ◌+◌, ◌<◌, ◌≤◌, inl, inr, refl, sym, ◌∙◌, ap, ap₂, subst, arith, [], ◌∷◌, ◌==◌, if◌then◌else◌}
 use Rattle.hys_number.specs.Number.{Number}
 use Rattle.hys_number.specs.Sums.{sum_to}
 use Rattle.hys_number.specs.Ops.{neg, inverse, whole, ◌+ₙ◌, ◌*ₙ◌, ◌-ₙ◌}
@@ -49,9 +49,9 @@ start_is_mix P = record {
 -- ---- a pivot
 mix_r : (P : LinearProgram) (T : Tableau) (r c : ℕ) (f : ℕ → Number) → r < P.rows → c < T.columns → ¬ (T.cell r c ≡ whole 0) → mix P (pivot T r c) r f ≡ inverse (T.cell r c) *ₙ mix P T r f
 mix_r P T r c f lr l h = ap₂ ◌+ₙ◌
-      (sum_to-same P.rows _ (λ j. inverse (T.cell r c) *ₙ (coef T r (P.columns + j) *ₙ f j)) (λ j m. ap (λ z. z *ₙ f j) (line_r T r c (unit (P.columns + j)) l h)
-        ∙ by_ring (inverse (T.cell r c) ∷ coef T r (P.columns + j) ∷ f j ∷ []) ((v 0 ⊗ v 1) ⊗ v 2) (v 0 ⊗ (v 1 ⊗ v 2)) refl) ∙ sum_to-mul P.rows (inverse (T.cell r c)) (λ j. coef T r (P.columns + j) *ₙ f j))
-      (last_no r P.rows (f P.rows) lr)
+    (sum_to-same P.rows _ (λ j. inverse (T.cell r c) *ₙ (coef T r (P.columns + j) *ₙ f j)) (λ j m. ap (λ z. z *ₙ f j) (line_r T r c (unit (P.columns + j)) l h)
+    ∙ by_ring (inverse (T.cell r c) ∷ coef T r (P.columns + j) ∷ f j ∷ []) ((v 0 ⊗ v 1) ⊗ v 2) (v 0 ⊗ (v 1 ⊗ v 2)) refl) ∙ sum_to-mul P.rows (inverse (T.cell r c)) (λ j. coef T r (P.columns + j) *ₙ f j))
+    (last_no r P.rows (f P.rows) lr)
     ∙ by_ring (inverse (T.cell r c) ∷ sum_to P.rows (λ j. coef T r (P.columns + j) *ₙ f j) ∷ []) (v 0 ⊗ v 1 ⊕ k 0) (v 0 ⊗ (v 1 ⊕ k 0)) refl
     ∙ ap (λ z. inverse (T.cell r c) *ₙ (sum_to P.rows (λ j. coef T r (P.columns + j) *ₙ f j) +ₙ z)) (sym (last_no r P.rows (f P.rows) lr))
 
@@ -63,8 +63,8 @@ mix_other P T r c f i lr l h d =
     let b : ℕ → Number = λ j. coef T r (P.columns + j) *ₙ f j in
     let z : Number = if i == P.rows then f P.rows else whole 0 in
     ap (λ y. y +ₙ z)
-      (sum_to-same P.rows _ (λ j. whole 1 *ₙ a j +ₙ neg t *ₙ b j) (λ j m. ap (λ y. y *ₙ f j) (line_other T r c (unit (P.columns + j)) i l h d)
-        ∙ by_ring (coef T i (P.columns + j) ∷ t ∷ coef T r (P.columns + j) ∷ f j ∷ []) ((v 0 ⊖ v 1 ⊗ v 2) ⊗ v 3) (k 1 ⊗ (v 0 ⊗ v 3) ⊕ minus (v 1) ⊗ (v 2 ⊗ v 3)) refl) ∙ sum_linear P.rows (whole 1) (neg t) a b)
+    (sum_to-same P.rows _ (λ j. whole 1 *ₙ a j +ₙ neg t *ₙ b j) (λ j m. ap (λ y. y *ₙ f j) (line_other T r c (unit (P.columns + j)) i l h d)
+    ∙ by_ring (coef T i (P.columns + j) ∷ t ∷ coef T r (P.columns + j) ∷ f j ∷ []) ((v 0 ⊖ v 1 ⊗ v 2) ⊗ v 3) (k 1 ⊗ (v 0 ⊗ v 3) ⊕ minus (v 1) ⊗ (v 2 ⊗ v 3)) refl) ∙ sum_linear P.rows (whole 1) (neg t) a b)
     ∙ by_ring (sum_to P.rows a ∷ t ∷ sum_to P.rows b ∷ z ∷ []) ((k 1 ⊗ v 0 ⊕ minus (v 1) ⊗ v 2) ⊕ v 3) ((v 0 ⊕ v 3) ⊖ v 1 ⊗ (v 2 ⊕ k 0)) refl
     ∙ ap (λ y. (sum_to P.rows a +ₙ z) -ₙ t *ₙ (sum_to P.rows b +ₙ y)) (sym (last_no r P.rows (f P.rows) lr))
 
@@ -85,31 +85,31 @@ pivot_is_mix P T r c lr l h s = record {
 -- ---- what the cost row says: its factors are the reduced costs of its multipliers
 pub row_at : (P : LinearProgram) (q i : ℕ) → q < P.columns → i < P.rows → line (start P) (unit q) i ≡ P.factor i q
 row_at P q i l m = ap₂ ◌+ₙ◌ (unit_no q (P.columns + i) (λ e. absurd (omega arith)))
-      (sum_single P.columns q _ l (λ j n d. ap (λ z. (start P).cell i j *ₙ z) (unit_no q j d) ∙ by_ring ((start P).cell i j ∷ []) (v 0 ⊗ k 0) (k 0) refl)
-        ∙ ap₂ ◌*ₙ◌ (rw (same_no i P.rows (λ e. absurd (omega arith)), same_no q P.columns (λ e. absurd (omega arith))) refl) (unit_yes q))
+    (sum_single P.columns q _ l (λ j n d. ap (λ z. (start P).cell i j *ₙ z) (unit_no q j d) ∙ by_ring ((start P).cell i j ∷ []) (v 0 ⊗ k 0) (k 0) refl)
+    ∙ ap₂ ◌*ₙ◌ (rw (same_no i P.rows (λ e. absurd (omega arith)), same_no q P.columns (λ e. absurd (omega arith))) refl) (unit_yes q))
     ∙ by_ring (P.factor i q ∷ []) (k 0 ⊕ v 0 ⊗ k 1) (v 0) refl
 
 cost_at : (P : LinearProgram) (q : ℕ) → q < P.columns → line (start P) (unit q) P.rows ≡ neg (P.cost q)
 cost_at P q l = ap₂ ◌+ₙ◌ (unit_no q (P.columns + P.rows) (λ e. absurd (omega arith)))
-      (sum_single P.columns q _ l (λ j n d. ap (λ z. (start P).cell P.rows j *ₙ z) (unit_no q j d) ∙ by_ring ((start P).cell P.rows j ∷ []) (v 0 ⊗ k 0) (k 0) refl)
-        ∙ ap₂ ◌*ₙ◌ (rw (same_yes P.rows, same_no q P.columns (λ e. absurd (omega arith))) refl) (unit_yes q))
+    (sum_single P.columns q _ l (λ j n d. ap (λ z. (start P).cell P.rows j *ₙ z) (unit_no q j d) ∙ by_ring ((start P).cell P.rows j ∷ []) (v 0 ⊗ k 0) (k 0) refl)
+    ∙ ap₂ ◌*ₙ◌ (rw (same_yes P.rows, same_no q P.columns (λ e. absurd (omega arith))) refl) (unit_yes q))
     ∙ by_ring (neg (P.cost q) ∷ []) (k 0 ⊕ v 0 ⊗ k 1) (v 0) refl
 
 pub reduced_is : (P : LinearProgram) (T : Tableau) (q : ℕ) → q < P.columns → IsMix P T → reduced_cost P (cost_multiplier P T) q ≡ neg (coef T P.rows q)
 reduced_is P T q l s =
     let a : ℕ → Number = λ j. coef T P.rows (P.columns + j) in
     let e : coef T P.rows q ≡ sum_to P.rows (λ j. a j *ₙ P.factor j q) +ₙ neg (P.cost q) =
-          s.lines (unit q) P.rows (omega arith) ∙ ap₂ ◌+ₙ◌ (sum_to-same P.rows _ (λ j. a j *ₙ P.factor j q) (λ j m. ap (λ z. a j *ₙ z) (row_at P q j l m))) (last_yes P.rows _ ∙ cost_at P q l) in
+    s.lines (unit q) P.rows (omega arith) ∙ ap₂ ◌+ₙ◌ (sum_to-same P.rows _ (λ j. a j *ₙ P.factor j q) (λ j m. ap (λ z. a j *ₙ z) (row_at P q j l m))) (last_yes P.rows _ ∙ cost_at P q l) in
     let g : sum_to P.rows (λ j. neg (a j) *ₙ P.factor j q) ≡ neg (whole 1) *ₙ sum_to P.rows (λ j. a j *ₙ P.factor j q) =
-          sum_to-same P.rows _ (λ j. neg (whole 1) *ₙ (a j *ₙ P.factor j q)) (λ j m. by_ring (a j ∷ P.factor j q ∷ []) (minus (v 0) ⊗ v 1) (minus (k 1) ⊗ (v 0 ⊗ v 1)) refl) ∙ sum_to-mul P.rows (neg (whole 1)) (λ j. a j *ₙ P.factor j q) in
+    sum_to-same P.rows _ (λ j. neg (whole 1) *ₙ (a j *ₙ P.factor j q)) (λ j m. by_ring (a j ∷ P.factor j q ∷ []) (minus (v 0) ⊗ v 1) (minus (k 1) ⊗ (v 0 ⊗ v 1)) refl) ∙ sum_to-mul P.rows (neg (whole 1)) (λ j. a j *ₙ P.factor j q) in
     ap (λ z. P.cost q +ₙ z) g ∙ by_ring (P.cost q ∷ sum_to P.rows (λ j. a j *ₙ P.factor j q) ∷ []) (v 0 ⊕ minus (k 1) ⊗ v 1) (minus (v 1 ⊕ minus (v 0))) refl ∙ ap neg (sym e)
 
 pub remaining_is : (P : LinearProgram) (T : Tableau) → IsMix P T → reduced_constant P (cost_multiplier P T) ≡ T.cell P.rows T.columns
 remaining_is P T s =
     let a : ℕ → Number = λ j. coef T P.rows (P.columns + j) in
     let e : T.cell P.rows T.columns ≡ sum_to P.rows (λ j. a j *ₙ P.bound j) +ₙ P.constant =
-          s.constants P.rows (omega arith) ∙ ap₂ ◌+ₙ◌ (sum_to-same P.rows _ (λ j. a j *ₙ P.bound j) (λ j m. ap (λ z. a j *ₙ z) (rw (same_no j P.rows (λ e. absurd (omega arith)), same_yes P.columns) refl)))
-            (last_yes P.rows _ ∙ rw (same_yes P.rows, same_yes P.columns) refl) in
+    s.constants P.rows (omega arith) ∙ ap₂ ◌+ₙ◌ (sum_to-same P.rows _ (λ j. a j *ₙ P.bound j) (λ j m. ap (λ z. a j *ₙ z) (rw (same_no j P.rows (λ e. absurd (omega arith)), same_yes P.columns) refl)))
+    (last_yes P.rows _ ∙ rw (same_yes P.rows, same_yes P.columns) refl) in
     let g : sum_to P.rows (λ j. neg (a j) *ₙ P.bound j) ≡ neg (whole 1) *ₙ sum_to P.rows (λ j. a j *ₙ P.bound j) =
-          sum_to-same P.rows _ (λ j. neg (whole 1) *ₙ (a j *ₙ P.bound j)) (λ j m. by_ring (a j ∷ P.bound j ∷ []) (minus (v 0) ⊗ v 1) (minus (k 1) ⊗ (v 0 ⊗ v 1)) refl) ∙ sum_to-mul P.rows (neg (whole 1)) (λ j. a j *ₙ P.bound j) in
+    sum_to-same P.rows _ (λ j. neg (whole 1) *ₙ (a j *ₙ P.bound j)) (λ j m. by_ring (a j ∷ P.bound j ∷ []) (minus (v 0) ⊗ v 1) (minus (k 1) ⊗ (v 0 ⊗ v 1)) refl) ∙ sum_to-mul P.rows (neg (whole 1)) (λ j. a j *ₙ P.bound j) in
     ap (λ z. P.constant -ₙ z) g ∙ by_ring (P.constant ∷ sum_to P.rows (λ j. a j *ₙ P.bound j) ∷ []) (v 0 ⊖ minus (k 1) ⊗ v 1) (v 1 ⊕ v 0) refl ∙ sym e

@@ -1,18 +1,18 @@
 -- The rule, given by functions, is that of the relations.
-use Rattle.std.proofs.Common.{◌≡◌, ℕ, zero, suc, ◌+◌, ◌-◌, ◌<◌, ◌≤◌, ◌↔◌, ◌⊎◌, inl, inr, refl, sym, ◌∙◌, ap, ap₂, subst, arith, Bool, true, false, if◌then◌else◌, Option, Some, None, List, [], ◌∷◌}
+use Rattle.std.proofs.Common.{◌≡◌, ℕ, suc, ◌<◌, inl, inr, refl, sym, ◌∙◌, ap, subst, arith, Bool, true, false, if◌then◌else◌, [], ◌∷◌}
 use Rattle.hys_number.specs.Number.{Number}
-use Rattle.hys_number.specs.Ops.{◌+ₙ◌, ◌*ₙ◌, ◌-ₙ◌, neg, ◌≤ₙ◌, ◌<ₙ◌, whole}
-use Rattle.hys_number.proofs.Ring.{by_ring, v, k, minus, ◌⊕◌, ◌⊗◌, ◌⊖◌}
+use Rattle.hys_number.specs.Ops.{◌*ₙ◌, ◌-ₙ◌, neg, ◌<ₙ◌, whole}
+use Rattle.hys_number.proofs.Ring.{by_ring, v, k, minus, ◌⊗◌}
 use Rattle.hys_relax.specs.Node.{Boxes}
 use Rattle.hys_relax.specs.LinearProgram.{LinearProgram}
 use Rattle.hys_simplex.specs.Tableau.{Tableau, Solves, IsOf, pivot}
-use Rattle.hys_simplex.specs.Status.{IsPositive, IsNull, Rises, raised, is_positive, is_raised_above, InRange, IsOff, basic_value, status_value, IsDualFeasible}
-use Rattle.hys_simplex.specs.Rule.{IsMovable, raised_sign, MayEnter, ratio, IsEntering, IsLeaving, IsRuled, IsBlocked}
-use Rattle.hys_simplex.proofs.Relations.{StandsAtEnds, CanMove, IsSign, KeepsRule, NearEnd, IsOrdered, NoneEnters, raised_cost}
-use Rattle.hys_simplex.proofs.Lex.{RaisedSign, down, nothing, up, positive_same}
+use Rattle.hys_simplex.specs.Status.{IsPositive, Rises, raised, is_raised_above, basic_value, status_value, IsDualFeasible}
+use Rattle.hys_simplex.specs.Rule.{raised_sign, MayEnter, IsLeaving, IsRuled, IsBlocked}
+use Rattle.hys_simplex.proofs.Relations.{CanMove, IsSign, KeepsRule, NearEnd, IsOrdered, NoneEnters, raised_cost}
+use Rattle.hys_simplex.proofs.Lex.{down, nothing, up, positive_same}
 use Rattle.hys_simplex.proofs.Lex.{raised_sign as sign_case}
 use Rattle.hys_simplex.proofs.Rising.{raised_not_null, cell_not_zero}
-use Rattle.hys_simplex.proofs.Ruled.{one_sign, minus_sign, to_one, to_minus, ruled_rises, ruled_lawful}
+use Rattle.hys_simplex.proofs.Ruled.{to_one, to_minus, ruled_rises, ruled_lawful}
 use Rattle.hys_simplex.proofs.Ratios.{test_is_ratio}
 use Rattle.hys_simplex.proofs.Places.{pivot_of}
 use Rattle.hys_simplex.proofs.Ranges.{test_is, test_down, stands, basic_is, off_sign, off_above, off_near, movable}

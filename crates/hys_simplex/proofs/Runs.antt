@@ -1,5 +1,5 @@
 -- Ruled paths: what holds of each tableau on them, and that they are shorter than the number of statuses.
-use Rattle.std.proofs.Common.{◌≡◌, ℕ, zero, suc, ◌+◌, ◌-◌, ◌*◌, ◌^◌, ◌<◌, ◌≤◌, ◌↔◌, ◌⊎◌, inl, inr, refl, sym, ◌∙◌, ap, ap₂, subst, arith, List, [], ◌∷◌, ◌++◌, length, take}
+use Rattle.std.proofs.Common.{◌≡◌, ℕ, zero, suc, ◌+◌, ◌*◌, ◌^◌, ◌<◌, ◌≤◌, refl, sym, ◌∙◌, ap, ap₂, subst, arith, List, [], ◌∷◌, ◌++◌, length, take}
 use Rattle.hys_number.specs.Number.{Number}
 use Rattle.hys_number.specs.Ops.{◌+ₙ◌, ◌*ₙ◌, neg, ◌≤ₙ◌, whole}
 use Rattle.hys_number.proofs.Order.{le_trans}
@@ -7,15 +7,14 @@ use Rattle.hys_number.proofs.Ring.{by_ring, minus}
 use Rattle.hys_number.proofs.Ring.{k as num}
 use native.Mathlib.Numerals.{unary_clauses}
 use Rattle.std.proofs.Math.Nat.{pow-succ'}
-use Rattle.hys_number.specs.Sums.{sum_to}
 use Rattle.hys_number.proofs.Sums.{sum_to-same}
 use Rattle.hys_lin.specs.Sums.{Within}
 use Rattle.hys_relax.specs.Node.{Boxes}
 use Rattle.hys_relax.specs.LinearProgram.{LinearProgram}
 use Rattle.hys_relax.specs.Bound.{bound_of, reduced_cost, least_product}
 use Rattle.hys_relax.proofs.Duality.{bound_grows}
-use Rattle.hys_simplex.specs.Tableau.{Tableau, start, pivot, after, ArePivots, IsOf, cost_multiplier, coef}
-use Rattle.hys_simplex.specs.Status.{Rises, IsDualFeasible, IsSameStatus, is_raised_above, status_value, raised}
+use Rattle.hys_simplex.specs.Tableau.{Tableau, start, pivot, after, ArePivots, IsOf, cost_multiplier}
+use Rattle.hys_simplex.specs.Status.{Rises, IsDualFeasible, IsSameStatus, status_value, raised}
 use Rattle.hys_simplex.specs.Rule.{IsRuled}
 use Rattle.hys_simplex.specs.Path.{RulesPath, IsRun, status_count}
 use Rattle.hys_simplex.proofs.Relations.{IsOrdered, raised_cost, SameEnds}
@@ -47,8 +46,12 @@ path_kept P level from top T (p ∷ ps) b h s = path_kept P level h.0 top (pivot
 
 pub path_pivots : (P : LinearProgram) (level : ℕ → Boxes) (from top : ℕ) (T : Tableau) (ps : List (ℕ × ℕ)) → RulesPath P level from top T ps → IsOf P T → ArePivots T ps
 path_pivots P level from top T [] h o = tt
-path_pivots P level from top T (p ∷ ps) h o = (rw o.tall h.3.leaving.row, rw o.wide h.3.entering.column, ruled_cell P (level h.0) T p.0 p.1 h.3,
-    path_pivots P level h.0 top (pivot T p.0 p.1) ps h.4 (ruled_of P (level h.0) T p.0 p.1 o h.3))
+path_pivots P level from top T (p ∷ ps) h o = (
+  rw o.tall h.3.leaving.row,
+  rw o.wide h.3.entering.column,
+  ruled_cell P (level h.0) T p.0 p.1 h.3,
+  path_pivots P level h.0 top (pivot T p.0 p.1) ps h.4 (ruled_of P (level h.0) T p.0 p.1 o h.3),
+)
 
 -- a deeper level has smaller boxes
 abbrev pub AreNested : ℕ → (ℕ → Boxes) → Type 0
@@ -63,14 +66,14 @@ pub path_bound : (P : LinearProgram) (level : ℕ → Boxes) (from top : ℕ) (T
 path_bound P level from top T [] z b n l h o e = le_trans z (bound_of P (level from) (cost_multiplier P T)) _ e (level_bound P level (cost_multiplier P T) from top n l)
 path_bound P level from top T (p ∷ ps) z b n l h o e = path_bound P level h.0 top (pivot T p.0 p.1) ps z b n h.2 h.4 (ruled_of P (level h.0) T p.0 p.1 o h.3)
     (le_trans z (bound_of P (level h.0) (cost_multiplier P T)) _
-      (le_trans z (bound_of P (level from) (cost_multiplier P T)) _ e (level_bound P level (cost_multiplier P T) from h.0 n h.1))
-      (pivot_bound P (level h.0) T p.0 p.1 o (b h.0) h.3))
+    (le_trans z (bound_of P (level from) (cost_multiplier P T)) _ e (level_bound P level (cost_multiplier P T) from h.0 n h.1))
+    (pivot_bound P (level h.0) T p.0 p.1 o (b h.0) h.3))
 
 -- at the start the multipliers are 0
 pub bound_same : (P : LinearProgram) (B : Boxes) (y z : ℕ → Number) → ((i : ℕ) → i < P.rows → y i ≡ z i) → bound_of P B y ≡ bound_of P B z
 bound_same P B y z h = ap₂ ◌+ₙ◌ (ap (λ s. P.constant +ₙ neg s) (sum_to-same P.rows (λ i. y i *ₙ P.bound i) (λ i. z i *ₙ P.bound i) (λ i l. ap (λ s. s *ₙ P.bound i) (h i l))))
     (sum_to-same P.columns (λ j. least_product (reduced_cost P y j) (B j)) (λ j. least_product (reduced_cost P z j) (B j))
-      (λ j l. ap (λ s. least_product (P.cost j +ₙ s) (B j)) (sum_to-same P.rows (λ i. y i *ₙ P.factor i j) (λ i. z i *ₙ P.factor i j) (λ i m. ap (λ s. s *ₙ P.factor i j) (h i m)))))
+    (λ j l. ap (λ s. least_product (P.cost j +ₙ s) (B j)) (sum_to-same P.rows (λ i. y i *ₙ P.factor i j) (λ i. z i *ₙ P.factor i j) (λ i m. ap (λ s. s *ₙ P.factor i j) (h i m)))))
 
 pub start_multiplier : (P : LinearProgram) (i : ℕ) → i < P.rows → cost_multiplier P (start P) i ≡ whole 0
 start_multiplier P i l = ap neg (coef_basic P (start P) (start_of P) P.rows i (omega arith) (omega arith) (λ e. absurd (omega (arith, e)))) ∙ by_ring [] (minus (num 0)) (num 0) refl
@@ -122,3 +125,15 @@ power_is b (suc n) = ap (λ z. b * z) (power_is b n) ∙ sym (pow-succ' b n)
 
 pub run_ends : (P : LinearProgram) (B : Boxes) (T : Tableau) (ps : List (ℕ × ℕ)) → IsOrdered P.columns B → IsRun P B T ps → Kept P T → length ps < status_count P
 run_ends P B T ps b h s = subst (λ z. length ps < z) (power_is (base P) (P.rows + P.columns)) (chain_ends P B (length ps) (λ i. after T (take i ps)) (λ i. status_value P B (after T (take i ps))) (run_chain P B T ps b h s))
+
+-- ---- one pivot more
+pub after_append : (T : Tableau) (ps qs : List (ℕ × ℕ)) → after T (ps ++ qs) ≡ after (after T ps) qs
+after_append T [] qs = refl
+after_append T (p ∷ ps) qs = after_append (pivot T p.0 p.1) ps qs
+
+pub run_append : (P : LinearProgram) (B : Boxes) (T : Tableau) (ps qs : List (ℕ × ℕ)) → IsRun P B T ps → IsRun P B (after T ps) qs → IsRun P B T (ps ++ qs)
+run_append P B T [] qs h r = r
+run_append P B T (p ∷ ps) qs h r = (h.0, run_append P B (pivot T p.0 p.1) ps qs h.1 r)
+
+pub run_grows : (P : LinearProgram) (B : Boxes) (T : Tableau) (ps : List (ℕ × ℕ)) (r c : ℕ) → IsRun P B T ps → IsRuled P B (after T ps) r c → IsRun P B T (ps ++ (r, c) ∷ [])
+run_grows P B T ps r c h q = run_append P B T ps ((r, c) ∷ []) h (q, tt)

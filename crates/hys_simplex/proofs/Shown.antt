@@ -1,14 +1,10 @@
 -- The laws, put together.
-use Rattle.std.proofs.Common.{◌≡◌, ℕ, suc, ◌<◌, ◌≤◌, ◌↔◌, refl, sym, ◌∙◌, ap, subst, Bool, true, false, not, ◌||◌, cond, IsTrue, Option, Some, None, List, [], ◌∷◌, ◌++◌, length, take}
+use Rattle.std.proofs.Common.{◌≡◌, refl, sym, ◌∙◌, Bool, true, false, not, ◌||◌, cond, Some, [], ◌∷◌, length}
 use Rattle.std.specs.List.{list_any}
-use Rattle.hys_number.specs.Number.{Number}
 use Rattle.hys_number.specs.Ops.{fits}
 use Rattle.hys_lin.specs.Operations.{first_lost, outcome}
-use Rattle.hys_lin.specs.declared.lost.Lost.{Lost}
-use Rattle.hys_relax.specs.Node.{node_boxes}
 use Rattle.hys_relax.specs.LinearProgram.{linear_program}
-use Rattle.hys_relax.proofs.Nodes.{node_ordered}
-use Rattle.hys_simplex.specs.Tableau.{Tableau, start, cost_multiplier, row_multiplier}
+use Rattle.hys_simplex.specs.Tableau.{start, cost_multiplier, row_multiplier}
 use Rattle.hys_simplex.specs.Path.{levels}
 use Rattle.hys_simplex.specs.Unfit.{SomeUnfit}
 use Rattle.hys_simplex.specs.Laws.{PivotKeeps, PathReaches, RuledReaches, OneRuled, CostRow, RuledRises, RuledIsLawful, BoundAfterPath, PathBelow, PathGoesOn, NoStatusTwice, RunEnds, BlockedRow, AllInsideIsLeast, LostIsUnfit}

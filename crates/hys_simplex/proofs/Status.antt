@@ -1,5 +1,5 @@
 -- A status: the bound of its multipliers is its cost.
-use Rattle.std.proofs.Common.{◌≡◌, ℕ, zero, suc, ◌+◌, ◌<◌, ◌≤◌, ◌↔◌, ◌⊎◌, inl, inr, refl, sym, ◌∙◌, ap, ap₂, subst, arith, Bool, true, false, List, [], ◌∷◌, ℤ, pos, negsuc, zero-mul}
+use Rattle.std.proofs.Common.{◌≡◌, ℕ, zero, suc, ◌+◌, ◌<◌, inl, inr, refl, sym, ◌∙◌, ap, subst, arith, Bool, true, false, [], ◌∷◌, ℤ, pos, negsuc, zero-mul}
 use Rattle.hys_number.specs.Number.{Number}
 use Rattle.hys_number.specs.Sums.{sum_to}
 use Rattle.hys_number.specs.Ops.{neg, whole, ◌+ₙ◌, ◌*ₙ◌, ◌-ₙ◌, ◌≤ₙ◌, ◌<ₙ◌}
@@ -17,7 +17,7 @@ use Rattle.hys_lin.specs.Ranges.{end_by_sign}
 use Rattle.hys_relax.specs.Node.{Boxes, Inside}
 use Rattle.hys_relax.specs.Bound.{IsSigned, SignHolds, reduced_cost, reduced_constant, least_product, bound_of}
 use Rattle.hys_simplex.specs.Tableau.{Tableau, start, Solves, coef, IsOf, cost_multiplier}
-use Rattle.hys_simplex.proofs.Relations.{AtEnd, IsStatus, SignOf, HasSigns, SlackIn, IsFeasible, column}
+use Rattle.hys_simplex.proofs.Relations.{AtEnd, IsStatus, SignOf, HasSigns, SlackIn, IsFeasible}
 use Rattle.hys_simplex.proofs.Same.{same_yes, same_no}
 use Rattle.hys_simplex.proofs.Rows.{reduced_is}
 use Rattle.hys_simplex.proofs.Places.{coef_outside, coef_basic}
@@ -56,18 +56,18 @@ end_is_least a x b h = go a.num (neg a).num refl refl h
 -- ---- a solution of the start: slacks are what the rows leave, the cost is the cost
 pub row_left : (P : LinearProgram) (w : ℕ → Number) → Solves (start P) w → (i : ℕ) → i < P.rows → row_sum P i w -ₙ P.bound i ≡ neg (w (P.columns + i))
 row_left P w s i l = turn (w (P.columns + i)) (row_sum P i w) (P.bound i)
-      (ap (λ z. w (P.columns + i) +ₙ z) (sum_to-same P.columns _ _ (λ j m. ap (λ z. z *ₙ w j) (rw (same_no i P.rows (λ e. absurd (omega arith)), same_no j P.columns (λ e. absurd (omega arith))) refl)))
-       ∙ s i (omega arith) ∙ rw (same_no i P.rows (λ e. absurd (omega arith)), same_yes P.columns) refl)
+    (ap (λ z. w (P.columns + i) +ₙ z) (sum_to-same P.columns _ _ (λ j m. ap (λ z. z *ₙ w j) (rw (same_no i P.rows (λ e. absurd (omega arith)), same_no j P.columns (λ e. absurd (omega arith))) refl)))
+    ∙ s i (omega arith) ∙ rw (same_no i P.rows (λ e. absurd (omega arith)), same_yes P.columns) refl)
   where
     turn : (a x b : Number) → a +ₙ x ≡ b → x -ₙ b ≡ neg a
     turn a x b e = ap (λ z. x -ₙ z) (sym e) ∙ by_ring (a ∷ x ∷ []) (v 1 ⊖ (v 0 ⊕ v 1)) (minus (v 0)) refl
 
 pub cost_is : (P : LinearProgram) (w : ℕ → Number) → Solves (start P) w → w (P.columns + P.rows) ≡ cost_of P w
 cost_is P w s = turn (w (P.columns + P.rows)) (sum_to P.columns (λ j. P.cost j *ₙ w j)) P.constant
-      (ap (λ z. w (P.columns + P.rows) +ₙ z) (sym (sum_to-mul P.columns (neg (whole 1)) (λ j. P.cost j *ₙ w j)
-          ∙ by_ring (sum_to P.columns (λ j. P.cost j *ₙ w j) ∷ []) (minus (k 1) ⊗ v 0) (minus (v 0)) refl) ∙ sum_to-same P.columns _ _ (λ j m. by_ring (P.cost j ∷ w j ∷ []) (minus (k 1) ⊗ (v 0 ⊗ v 1)) (minus (v 0) ⊗ v 1) refl
-          ∙ ap (λ z. z *ₙ w j) (rw (same_yes P.rows, same_no j P.columns (λ e. absurd (omega arith))) refl)))
-       ∙ s P.rows (omega arith) ∙ rw (same_yes P.rows, same_yes P.columns) refl)
+    (ap (λ z. w (P.columns + P.rows) +ₙ z) (sym (sum_to-mul P.columns (neg (whole 1)) (λ j. P.cost j *ₙ w j)
+    ∙ by_ring (sum_to P.columns (λ j. P.cost j *ₙ w j) ∷ []) (minus (k 1) ⊗ v 0) (minus (v 0)) refl) ∙ sum_to-same P.columns _ _ (λ j m. by_ring (P.cost j ∷ w j ∷ []) (minus (k 1) ⊗ (v 0 ⊗ v 1)) (minus (v 0) ⊗ v 1) refl
+    ∙ ap (λ z. z *ₙ w j) (rw (same_yes P.rows, same_no j P.columns (λ e. absurd (omega arith))) refl)))
+    ∙ s P.rows (omega arith) ∙ rw (same_yes P.rows, same_yes P.columns) refl)
   where
     turn : (a x b : Number) → a +ₙ neg x ≡ b → a ≡ b +ₙ x
     turn a x b e = by_ring (a ∷ x ∷ []) (v 0) ((v 0 ⊕ minus (v 1)) ⊕ v 1) refl ∙ ap (λ z. z +ₙ x) e
@@ -95,7 +95,7 @@ status_bound P B T w o s =
     ap (λ z. reduced_constant P (cost_multiplier P T) +ₙ z) (sum_to-same P.columns _ (λ j. reduced_cost P (cost_multiplier P T) j *ₙ w j) (λ j l. sym (column_least P B T w o s j l)))
     ∙ regrouped P (cost_multiplier P T) w
     ∙ ap (λ z. cost_of P w +ₙ z) (sum_zero P.rows _ (λ i l. ap (λ z. cost_multiplier P T i *ₙ z) (row_left P w ((o.keeps w).1 s.solves) i l)
-        ∙ by_ring (cost_multiplier P T i ∷ w (P.columns + i) ∷ []) (v 0 ⊗ minus (v 1)) (minus (v 0 ⊗ v 1)) refl ∙ ap neg (slack_zero P B T w o s i l) ∙ by_ring [] (minus (k 0)) (k 0) refl))
+    ∙ by_ring (cost_multiplier P T i ∷ w (P.columns + i) ∷ []) (v 0 ⊗ minus (v 1)) (minus (v 0 ⊗ v 1)) refl ∙ ap neg (slack_zero P B T w o s i l) ∙ by_ring [] (minus (k 0)) (k 0) refl))
     ∙ by_ring (cost_of P w ∷ []) (v 0 ⊕ k 0) (v 0) refl
 
 -- the multipliers of a lawful status are lawful

@@ -1,19 +1,18 @@
 -- Where no column may enter, no values of the variables outside bring the row's basic value to its range.
-use Rattle.std.proofs.Common.{◌≡◌, ℕ, zero, suc, ◌+◌, ◌-◌, ◌<◌, ◌≤◌, ◌⊎◌, inl, inr, refl, sym, ◌∙◌, ap, ap₂, subst, arith, Bool, true, false, if◌then◌else◌, Option, Some, None, List, [], ◌∷◌}
+use Rattle.std.proofs.Common.{◌≡◌, ℕ, suc, ◌+◌, ◌<◌, inl, inr, refl, sym, ◌∙◌, ap, subst, arith, Bool, true, false, if◌then◌else◌, Option, Some, None, [], ◌∷◌}
 use Rattle.hys_number.specs.Number.{Number}
-use Rattle.hys_number.specs.Ops.{◌+ₙ◌, ◌*ₙ◌, ◌-ₙ◌, neg, ◌≤ₙ◌, ◌<ₙ◌, whole}
+use Rattle.hys_number.specs.Ops.{◌*ₙ◌, ◌-ₙ◌, neg, ◌≤ₙ◌, ◌<ₙ◌, whole}
 use Rattle.hys_number.specs.Sums.{sum_to}
 use Rattle.hys_number.proofs.Laws.{whole-ratio}
 use Rattle.hys_number.proofs.Order.{le_refl', le_total, le_antisymm, mul-le-mul_left, mul-le-mul_left_neg, lt_of_le-lt, lt_of_lt-le}
-use Rattle.hys_number.proofs.Scale.{overs, common1, common1_of, common2, common2_of, common3, common3_of, common4, common4_of}
+use Rattle.hys_number.proofs.Scale.{overs, common1, common1_of, common2, common2_of, common3, common3_of}
 use Rattle.hys_number.proofs.Sums.{sum_to-same, sum_to-mul, sum_to-le}
 use Rattle.hys_number.proofs.Ring.{by_ring, v, k, minus, ◌⊕◌, ◌⊗◌, ◌⊖◌}
 use Rattle.hys_relax.specs.Node.{Boxes}
 use Rattle.hys_relax.specs.LinearProgram.{LinearProgram}
-use Rattle.hys_simplex.specs.Tableau.{Tableau, Solves, IsOf}
-use Rattle.hys_simplex.specs.Status.{raised, is_raised_above, lower, upper, at_most, InRange, IsOff, under, over, end_or, end_value, basic_value, IsDualFeasible}
-use Rattle.hys_simplex.specs.Rule.{raised_sign, MayEnter, IsLeaving, IsBlocked, IsStranded}
-use Rattle.hys_simplex.proofs.Rules.{sign_is_sign}
+use Rattle.hys_simplex.specs.Tableau.{Tableau, IsOf}
+use Rattle.hys_simplex.specs.Status.{raised, is_raised_above, lower, upper, at_most, IsOff, under, over, end_or, end_value, basic_value, IsDualFeasible}
+use Rattle.hys_simplex.specs.Rule.{raised_sign, IsBlocked, IsStranded}
 use Rattle.hys_simplex.proofs.Ruled.{cases}
 use Rattle.hys_simplex.proofs.Ranges.{test_down, upper_column, upper_slack}
 
@@ -76,12 +75,12 @@ stranded P B T r side near o f h w s inside = off h.leaving.off
     each : (j : ℕ) → j < P.columns → (side *ₙ T.cell r j) *ₙ end_value P B T j ≤ₙ (side *ₙ T.cell r j) *ₙ w (T.outside j)
     each j lj = no_help (upper P B (T.outside j)) (lower P B (T.outside j)) (side *ₙ T.cell r j) (w (T.outside j)) (is_raised_above P T j) (inside j lj).low (inside j lj).high (bounded j lj)
         (λ m. subst (λ z. z ≤ₙ whole 0) (by_ring (side ∷ raised_sign P T j ∷ T.cell r j ∷ []) (v 0 ⊗ v 1 ⊗ v 2) (v 1 ⊗ (v 0 ⊗ v 2)) refl)
-          (not_above (side *ₙ raised_sign P T j *ₙ T.cell r j) (λ q. h.closed j lj (record { movable = m; toward = q }))))
+        (not_above (side *ₙ raised_sign P T j *ₙ T.cell r j) (λ q. h.closed j lj (record { movable = m; toward = q }))))
 
     sums : side *ₙ sum_to T.columns (λ j. T.cell r j *ₙ end_value P B T j) ≤ₙ side *ₙ sum_to T.columns (λ j. T.cell r j *ₙ w (T.outside j))
     sums = subst (λ z. z ≤ₙ side *ₙ sum_to T.columns (λ j. T.cell r j *ₙ w (T.outside j))) (pulled (end_value P B T))
         (subst (λ z. sum_to T.columns (λ j. (side *ₙ T.cell r j) *ₙ end_value P B T j) ≤ₙ z) (pulled (λ j. w (T.outside j)))
-          (sum_to-le T.columns (λ j. (side *ₙ T.cell r j) *ₙ end_value P B T j) (λ j. (side *ₙ T.cell r j) *ₙ w (T.outside j)) (λ j l. each j (rw (← o.wide) l))))
+        (sum_to-le T.columns (λ j. (side *ₙ T.cell r j) *ₙ end_value P B T j) (λ j. (side *ₙ T.cell r j) *ₙ w (T.outside j)) (λ j l. each j (rw (← o.wide) l))))
       where
         pulled : (x : ℕ → Number) → sum_to T.columns (λ j. (side *ₙ T.cell r j) *ₙ x j) ≡ side *ₙ sum_to T.columns (λ j. T.cell r j *ₙ x j)
         pulled x = sum_to-same T.columns _ (λ j. side *ₙ (T.cell r j *ₙ x j)) (λ j l. by_ring (side ∷ T.cell r j ∷ x j ∷ []) ((v 0 ⊗ v 1) ⊗ v 2) (v 0 ⊗ (v 1 ⊗ v 2)) refl) ∙ sum_to-mul T.columns side (λ j. T.cell r j *ₙ x j)

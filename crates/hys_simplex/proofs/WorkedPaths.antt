@@ -1,6 +1,6 @@
 -- The worked problem's ruled paths, by computation.
-use Rattle.std.proofs.Common.{◌≡◌, ℕ, zero, suc, ◌<◌, ◌≤◌, refl, arith, List, [], ◌∷◌, ◌++◌, length, true, false}
-use Rattle.hys_number.specs.Number.{Number, make}
+use Rattle.std.proofs.Common.{◌≡◌, ℕ, zero, suc, ◌<◌, ◌≤◌, refl, arith, [], ◌∷◌, ◌++◌, true}
+use Rattle.hys_number.specs.Number.{make}
 use Rattle.hys_number.specs.Gcd.{gcd}
 use Rattle.hys_number.specs.Ops.{◌+ₙ◌, ◌*ₙ◌, ◌/ₙ◌, neg, inverse, whole}
 use Rattle.hys_relax.specs.Node.{Boxes, node_boxes}
@@ -28,9 +28,19 @@ unfolding ◌+ₙ◌ ◌*ₙ◌ neg inverse whole make gcd
 third = refl
 
 pub root_ruled : IsPathAt worked [] root_path
-root_ruled = (0, omega arith, omega arith, rule_yes program (node_boxes worked []) (start program) beneath 1 2 first,
-    (0, omega arith, omega arith, rule_yes program (node_boxes worked []) (pivot (start program) 1 2) beneath 0 3 second,
-      (0, omega arith, omega arith, rule_yes program (node_boxes worked []) (pivot (pivot (start program) 1 2) 0 3) beyond 1 1 third, tt)))
+root_ruled = (
+  0,
+  omega arith,
+  omega arith,
+  rule_yes program (node_boxes worked []) (start program) beneath 1 2 first,
+  (
+    0,
+    omega arith,
+    omega arith,
+    rule_yes program (node_boxes worked []) (pivot (start program) 1 2) beneath 0 3 second,
+    (0, omega arith, omega arith, rule_yes program (node_boxes worked []) (pivot (pivot (start program) 1 2) 0 3) beyond 1 1 third, tt),
+  ),
+)
 
 root_all : inside_to program (node_boxes worked []) (tableau_after worked root_path) 2 ≡ true
 unfolding ◌+ₙ◌ ◌*ₙ◌ neg inverse whole make gcd
@@ -57,10 +67,25 @@ fourth_with = refl
 
 -- ---- with the first input at 0
 pub without_ruled : IsPathAt worked without (root_path ++ (1, 3) ∷ [])
-without_ruled = (0, omega arith, omega arith, rule_yes program (node_boxes worked []) (start program) beneath 1 2 first,
-    (0, omega arith, omega arith, rule_yes program (node_boxes worked []) (pivot (start program) 1 2) beneath 0 3 second,
-      (0, omega arith, omega arith, rule_yes program (node_boxes worked []) (pivot (pivot (start program) 1 2) 0 3) beyond 1 1 third,
-        (1, omega arith, omega arith, rule_yes program (node_boxes worked without) (tableau_after worked root_path) beyond 1 3 fourth_without, tt))))
+without_ruled = (
+  0,
+  omega arith,
+  omega arith,
+  rule_yes program (node_boxes worked []) (start program) beneath 1 2 first,
+  (
+    0,
+    omega arith,
+    omega arith,
+    rule_yes program (node_boxes worked []) (pivot (start program) 1 2) beneath 0 3 second,
+    (
+      0,
+      omega arith,
+      omega arith,
+      rule_yes program (node_boxes worked []) (pivot (pivot (start program) 1 2) 0 3) beyond 1 1 third,
+      (1, omega arith, omega arith, rule_yes program (node_boxes worked without) (tableau_after worked root_path) beyond 1 3 fourth_without, tt),
+    ),
+  ),
+)
 
 without_all : inside_to program (node_boxes worked without) (tableau_after worked (root_path ++ (1, 3) ∷ [])) 2 ≡ true
 unfolding ◌+ₙ◌ ◌*ₙ◌ neg inverse whole make gcd
@@ -75,10 +100,25 @@ without_point = refl
 
 -- ---- with the first input at 1
 pub with_ruled : IsPathAt worked with_first (root_path ++ (1, 1) ∷ [])
-with_ruled = (0, omega arith, omega arith, rule_yes program (node_boxes worked []) (start program) beneath 1 2 first,
-    (0, omega arith, omega arith, rule_yes program (node_boxes worked []) (pivot (start program) 1 2) beneath 0 3 second,
-      (0, omega arith, omega arith, rule_yes program (node_boxes worked []) (pivot (pivot (start program) 1 2) 0 3) beyond 1 1 third,
-        (1, omega arith, omega arith, rule_yes program (node_boxes worked with_first) (tableau_after worked root_path) beneath 1 1 fourth_with, tt))))
+with_ruled = (
+  0,
+  omega arith,
+  omega arith,
+  rule_yes program (node_boxes worked []) (start program) beneath 1 2 first,
+  (
+    0,
+    omega arith,
+    omega arith,
+    rule_yes program (node_boxes worked []) (pivot (start program) 1 2) beneath 0 3 second,
+    (
+      0,
+      omega arith,
+      omega arith,
+      rule_yes program (node_boxes worked []) (pivot (pivot (start program) 1 2) 0 3) beyond 1 1 third,
+      (1, omega arith, omega arith, rule_yes program (node_boxes worked with_first) (tableau_after worked root_path) beneath 1 1 fourth_with, tt),
+    ),
+  ),
+)
 
 with_all : inside_to program (node_boxes worked with_first) (tableau_after worked (root_path ++ (1, 1) ∷ [])) 2 ≡ true
 unfolding ◌+ₙ◌ ◌*ₙ◌ neg inverse whole make gcd

@@ -1,5 +1,5 @@
 -- Ruled paths of pivots at a node.
-use Rattle.std.specs.Prelude.{◌≡◌, ℕ, ◌+◌, ◌*◌, ◌^◌, ◌<◌, ◌≤◌, List, [], ◌∷◌, length, take}
+use Rattle.std.specs.Prelude.{ℕ, ◌+◌, ◌*◌, ◌^◌, ◌≤◌, List, [], ◌∷◌, length, take}
 use Rattle.hys_number.specs.Number.{Number}
 use Rattle.hys_number.specs.Ops.{◌≤ₙ◌}
 use Rattle.hys_lin.specs.declared.problem.Problem.{Problem}
@@ -53,5 +53,5 @@ IsLawfulPath P level from top T [] = IsSigned P (cost_multiplier P T)
 IsLawfulPath P level from top T (p ∷ ps) =
     IsSigned P (cost_multiplier P T)
     × ((k : ℕ) × (from ≤ k) × (k ≤ top) × IsOutside P (level k) T p.0
-        × (bound_of P (level k) (cost_multiplier P T) ≤ₙ bound_of P (level k) (cost_multiplier P (pivot T p.0 p.1)))
-        × IsLawfulPath P level k top (pivot T p.0 p.1) ps)
+    × (bound_of P (level k) (cost_multiplier P T) ≤ₙ bound_of P (level k) (cost_multiplier P (pivot T p.0 p.1)))
+    × IsLawfulPath P level k top (pivot T p.0 p.1) ps)

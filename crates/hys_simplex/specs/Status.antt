@@ -1,13 +1,13 @@
 -- Statuses of the dual simplex method with bounds (Lemke 1954, Wagner 1958) and raised costs: the lexicographic rule
 -- of Dantzig, Orden and Wolfe (1955), by which no status comes twice. The cost of column j is thought of as raised
 -- by e(j), where e(0) is far above e(1) and so on, and all are above 0 and below every number above 0.
-use Rattle.std.specs.Prelude.{◌≡◌, ℕ, zero, suc, ◌+◌, ◌-◌, ◌<◌, ◌≤◌, ◌==◌, if◌then◌else◌, Bool, true, false, ◌⊎◌, Option, Some, None, List, [], ◌∷◌, ◌++◌, ltb, ℤ, pos, negsuc}
+use Rattle.std.specs.Prelude.{◌≡◌, ℕ, zero, suc, ◌+◌, ◌-◌, ◌<◌, if◌then◌else◌, Bool, true, false, Option, Some, None, List, [], ◌∷◌, ◌++◌, ltb, ℤ, pos, negsuc}
 use Rattle.hys_number.specs.Number.{Number}
 use Rattle.hys_number.specs.Ops.{◌+ₙ◌, ◌*ₙ◌, ◌-ₙ◌, neg, ◌≤ₙ◌, ◌<ₙ◌, whole}
 use Rattle.hys_number.specs.Sums.{sum_to}
 use Rattle.hys_relax.specs.Node.{Boxes}
 use Rattle.hys_relax.specs.LinearProgram.{LinearProgram}
-use Rattle.hys_simplex.specs.Tableau.{Tableau, Solves, unit}
+use Rattle.hys_simplex.specs.Tableau.{Tableau, unit}
 
 -- ---- raised numbers
 -- A raised number has a number in each of N places, each far above the next. It is positive where the first that

@@ -1,9 +1,9 @@
 -- Tableaux of a linear program and their pivots, as functions of places. With n columns and m rows the variables
 -- are numbered: column j is j, the slack of row i is n + i, and the cost is n + m. Row m is that of the cost, which
 -- is always basic there; column n is that of the constants.
-use Rattle.std.specs.Prelude.{◌≡◌, ℕ, zero, suc, ◌+◌, ◌<◌, ◌≤◌, ◌==◌, if◌then◌else◌, Bool, true, false, ◌⊎◌, ◌↔◌, List, [], ◌∷◌}
+use Rattle.std.specs.Prelude.{◌≡◌, ℕ, ◌+◌, ◌<◌, ◌≤◌, ◌==◌, if◌then◌else◌, ◌⊎◌, ◌↔◌, List, [], ◌∷◌}
 use Rattle.hys_number.specs.Number.{Number}
-use Rattle.hys_number.specs.Ops.{◌+ₙ◌, ◌*ₙ◌, ◌-ₙ◌, ◌/ₙ◌, neg, inverse, ◌≤ₙ◌, whole}
+use Rattle.hys_number.specs.Ops.{◌+ₙ◌, ◌*ₙ◌, ◌-ₙ◌, ◌/ₙ◌, neg, inverse, whole}
 use Rattle.hys_number.specs.Sums.{sum_to}
 use Rattle.hys_relax.specs.LinearProgram.{LinearProgram}
 use Rattle.hys_relax.specs.declared.range.Var.{Var}

@@ -5,6 +5,7 @@ use Rattle.std.specs.List.{list_any}
 use Rattle.hys_number.specs.Number.{Number}
 use Rattle.hys_number.specs.Ops.{◌*ₙ◌, ◌-ₙ◌, ◌/ₙ◌, whole}
 use Rattle.hys_number.specs.Sums.{sum_to}
+use Rattle.hys_lin.specs.Sums.{Assignment, at}
 use Rattle.hys_lin.specs.Operations.{outcome, times, minus, summing}
 use Rattle.hys_lin.specs.declared.lost.Lost.{Lost}
 use Rattle.hys_lin.specs.declared.problem.Problem.{Problem}
@@ -16,7 +17,7 @@ use Rattle.hys_relax.specs.declared.fixing.Fixing.{Fixing}
 use Rattle.hys_relax.specs.declared.range.TablePlace.{TablePlace}
 use Rattle.hys_relax.specs.declared.range.TablePlace.TheVariants.{Cell, Value, Sum}
 use Rattle.hys_simplex.specs.Tableau.{Tableau, pivoted, cost_multiplier, row_multiplier}
-use Rattle.hys_simplex.specs.Status.{InRange, end_value, basic_value, status_value, AllInside}
+use Rattle.hys_simplex.specs.Status.{InRange, end_value, basic_value, status_point, AllInside}
 use Rattle.hys_simplex.specs.Rule.{IsLeaving, IsRuled, IsStranded}
 use Rattle.hys_simplex.specs.Path.{IsPathAt, tableau_after}
 
@@ -44,7 +45,7 @@ value_operations P B T i = joined_to T.columns (λ j. times (T.cell i j) (end_va
     ∷ minus (T.cell i T.columns -ₙ sum_to j (λ q. T.cell i q *ₙ end_value P B T q)) (T.cell i j *ₙ end_value P B T j) ∷ [])
 
 -- the operations of a row's sum at a point; the row after those of the problem is that of the cost
-abbrev pub point_operations : Problem → (ℕ → Number) → ℕ → List Lost
+abbrev pub point_operations : Problem → Assignment → ℕ → List Lost
 point_operations p x i = if i == length p.rows
     then summing p.cost.constant p.cost.terms (λ t. x t.column)
     else summing (whole 0) (row_at p i).terms (λ t. x t.column)
@@ -96,7 +97,7 @@ abbrev pub UnfitAt : (Number → Bool) → Problem → Boxes → Tableau → Tab
 UnfitAt fits p B T (Cell i j) = PivotUnfit fits (linear_program p) B T i j
 UnfitAt fits p B T (Value i) =
     ((i < length p.rows) × InsideBefore (linear_program p) B T i × SomeUnfit fits (value_operations (linear_program p) B T i))
-    ⊎ ((i ≤ length p.rows) × AllInside (linear_program p) B T × SomeUnfit fits (point_operations p (status_value (linear_program p) B T) i))
+    ⊎ ((i ≤ length p.rows) × AllInside (linear_program p) B T × SomeUnfit fits (point_operations p (at (status_point (linear_program p) B T)) i))
 UnfitAt fits p B T Sum =
     (AllInside (linear_program p) B T × SomeUnfit fits (bound_operations p B (cost_pairs p T)))
     ⊎ RowSumUnfit fits p B T

@@ -1,10 +1,8 @@
 -- Ruled paths of the worked problem.
-use Rattle.std.specs.Prelude.{ℕ, List, [], ◌∷◌, ◌++◌, true, false}
+use Rattle.std.specs.Prelude.{ℕ, List, [], ◌∷◌, true, false}
 use Rattle.hys_relax.specs.Worked.{worked, fix}
 use Rattle.hys_relax.specs.LinearProgram.{LinearProgram, linear_program}
 use Rattle.hys_relax.specs.declared.fixing.Fixing.{Fixing}
-use Rattle.hys_simplex.specs.Tableau.{Tableau}
-use Rattle.hys_simplex.specs.Path.{tableau_after}
 
 abbrev pub program : LinearProgram
 program = linear_program worked
