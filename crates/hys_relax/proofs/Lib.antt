@@ -5,3 +5,5 @@ pub mod Nodes
 pub mod BoundSums
 pub mod Bounds
 pub mod Examples
+pub mod Children
+pub mod Zeros

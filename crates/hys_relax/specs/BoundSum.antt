@@ -2,7 +2,7 @@
 -- row the product of its multiplier with the coefficient there and the partial sum. Then the constant in the
 -- same way, each product of multiplier and bound taken away. Last, from that constant, for each column the
 -- product of its coefficient with the end that makes it less, and the partial sum.
-use Rattle.std.specs.Prelude.{◌≡◌, ℕ, zero, suc, List, [], ◌∷◌, ◌++◌, length, Option, None}
+use Rattle.std.specs.Prelude.{◌≡◌, ℕ, zero, suc, List, [], ◌∷◌, ◌++◌, length, Option, None, Bool, true, false, ℤ, pos, negsuc}
 use Rattle.hys_number.specs.Number.{Number}
 use Rattle.hys_number.specs.Ops.{◌+ₙ◌, ◌-ₙ◌, ◌*ₙ◌}
 use Rattle.hys_number.specs.Sums.{sum_to}
@@ -15,6 +15,12 @@ use Rattle.hys_relax.specs.Node.{Boxes, node_boxes}
 use Rattle.hys_relax.specs.LinearProgram.{row_at, factor_at}
 use Rattle.hys_relax.specs.Bound.{weights, lesser_end, least_product}
 use Rattle.hys_relax.specs.declared.fixing.Fixing.{Fixing}
+
+-- the number with this first part isn't 0
+abbrev pub not_zero : ℤ → Bool
+not_zero (pos zero) = false
+not_zero (pos (suc n)) = true
+not_zero (negsuc n) = true
 
 -- lists for the places below n, one after the other
 abbrev pub joined_to : {X : Type 0} → ℕ → (ℕ → List X) → List X

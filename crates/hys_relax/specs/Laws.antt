@@ -1,13 +1,16 @@
 -- What the laws of this crate say.
-use Rattle.std.specs.Prelude.{◌≡◌, ℕ, List, [], ◌∷◌, length, take, true, false}
+use Rattle.std.specs.Prelude.{◌≡◌, ℕ, zero, suc, List, [], ◌∷◌, ◌++◌, length, take, Bool, true, false, IsTrue, ◌⊎◌, if◌then◌else◌, ℤ, pos, negsuc}
 use Rattle.hys_number.specs.Number.{Number}
-use Rattle.hys_number.specs.Ops.{◌≤ₙ◌, ◌<ₙ◌, whole, neg}
-use Rattle.hys_lin.specs.Sums.{at, value}
+use Rattle.hys_number.specs.Ops.{◌≤ₙ◌, ◌<ₙ◌, whole, neg, fits}
+use Rattle.hys_lin.specs.Bits.{IsBit}
+use Rattle.hys_lin.specs.Sums.{at, value, Within}
+use Rattle.hys_lin.specs.Operations.{first_lost, summing}
+use Rattle.hys_lin.specs.declared.form.Term.{Term}
 use Rattle.hys_lin.specs.declared.problem.Problem.{Problem}
-use Rattle.hys_relax.specs.Node.{IsProblem, StackedSolution, IsNode, Boxes, node_boxes, RelaxedPoint, Agrees}
+use Rattle.hys_relax.specs.Node.{is_branch, is_fixed, unit_box, IsProblem, StackedSolution, IsNode, Boxes, node_boxes, RelaxedPoint, Agrees}
 use Rattle.hys_relax.specs.LinearProgram.{linear_program}
 use Rattle.hys_relax.specs.Bound.{multiplier, AreMultipliers, AreLawful, IsLeastOver, lagrangian, bound_of, node_bound, plain_bound, costless}
-use Rattle.hys_relax.specs.BoundSum.{summed_coefficient, summed_constant, summed_ends, BoundFits}
+use Rattle.hys_relax.specs.BoundSum.{summed_coefficient, summed_constant, summed_ends, BoundFits, subtracting, not_zero}
 use Rattle.hys_relax.specs.Worked.{worked, fix, on_equation, on_both, on_demand}
 use Rattle.hys_relax.specs.declared.fixing.Fixing.{Fixing}
 
@@ -43,6 +46,45 @@ SolutionRelaxes = (p : Problem) (fixings : List Fixing) (v : List Number) → St
 abbrev pub SumIsBound : Type 0
 SumIsBound = (p : Problem) (B : Boxes) (pairs : List (ℕ × Number)) → AreMultipliers pairs → AreLawful p pairs →
     summed_ends (summed_constant p pairs) (summed_coefficient p pairs) B (length p.boxes) ≡ bound_of (linear_program p) B (multiplier pairs)
+
+-- ---- children and points
+-- a node with one more branch column fixed is a node
+abbrev pub ChildIsNode : Type 0
+ChildIsNode = (p : Problem) (fixings : List Fixing) (f : Fixing) → IsNode p fixings → IsTrue (is_branch p f.column) → is_fixed fixings f.column ≡ false →
+    IsNode p (fixings ++ f ∷ [])
+
+-- the fixings with the column at a value too
+abbrev pub child : List Fixing → ℕ → Bool → List Fixing
+child fixings c one = fixings ++ record { column = c; one = one } ∷ []
+
+-- a solution that agrees with a node's fixings agrees with those of one of its two children
+abbrev pub ChildrenCover : Type 0
+ChildrenCover = (p : Problem) (fixings : List Fixing) (c : ℕ) (v : List Number) → StackedSolution p v → Agrees fixings (at v) → IsTrue (is_branch p c) →
+    Agrees (child fixings c false) (at v) ⊎ Agrees (child fixings c true) (at v)
+
+-- a relaxed point of a node is one of each node above
+abbrev pub PointAbove : Type 0
+PointAbove = (p : Problem) (k : ℕ) (fixings : List Fixing) (v : List Number) → IsProblem p → IsNode p fixings → RelaxedPoint p fixings v → RelaxedPoint p (take k fixings) v
+
+-- in a relaxed point the branch columns lie between 0 and 1, and the fixed ones are 0 or 1
+abbrev pub BranchWithin : Type 0
+BranchWithin = (p : Problem) (fixings : List Fixing) (v : List Number) (c : ℕ) → IsProblem p → IsNode p fixings → RelaxedPoint p fixings v →
+    IsTrue (is_branch p c) → Within unit_box (at v c) × (IsTrue (is_fixed fixings c) → IsBit (at v c))
+
+-- a relaxed point whose branch columns are 0 or 1 is a solution
+abbrev pub PointSolves : Type 0
+PointSolves = (p : Problem) (fixings : List Fixing) (v : List Number) → IsProblem p → IsNode p fixings → RelaxedPoint p fixings v →
+    ((c : ℕ) → IsTrue (is_branch p c) → IsBit (at v c)) → StackedSolution p v
+
+-- a product of 0 loses nothing: a sum of terms may leave out those whose number is 0
+abbrev pub touched : (Term → Number) → List Term → List Term
+touched at [] = []
+touched at (t ∷ ts) = if not_zero (at t).num then t ∷ touched at ts else touched at ts
+
+abbrev pub ZerosLoseNothing : Type 0
+ZerosLoseNothing = (start : Number) (ts : List Term) (at : Term → Number) → fits start ≡ true →
+    (first_lost (summing start ts at) ≡ first_lost (summing start (touched at ts) at))
+    × (first_lost (subtracting start ts at) ≡ first_lost (subtracting start (touched at ts) at))
 
 -- bounds of the worked problem, by multipliers and node
 pub record WorkedBounds : Type 0 where

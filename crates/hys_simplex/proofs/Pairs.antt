@@ -16,7 +16,9 @@ use Rattle.hys_relax.specs.Bound.{weights, multiplier, AreMultipliers, IsLawfulP
 use Rattle.hys_relax.specs.Bound.{IsSigned}
 use Rattle.hys_relax.proofs.Dense.{own_column, other_column}
 use Rattle.hys_simplex.specs.Status.{values_to}
-use Rattle.hys_simplex.specs.Unfit.{not_zero, pairs_to}
+use Rattle.hys_simplex.specs.Unfit.{pairs_to}
+use Rattle.hys_relax.specs.BoundSum.{not_zero}
+use Rattle.hys_relax.proofs.Zeros.{zero_is}
 
 -- ---- pairs
 abbrev one_pair : ℕ → Number → List (ℕ × Number)
@@ -28,14 +30,6 @@ weights-append (x ∷ xs) ys = ap (λ z. (record { column = x.0; factor = x.1 })
 
 not_zero_not : (a : Number) → not_zero a.num ≡ true → a ≡ whole 0 → ⊥
 not_zero_not a h e = let q : not_zero (pos 0) ≡ true = subst (λ z. not_zero z ≡ true) ((zero_num a).1 e) h in absurd (cc)
-
-zero_is : (a : Number) → not_zero a.num ≡ false → a ≡ whole 0
-zero_is a h = go a.num refl h
-  where
-    go : (z : ℤ) → a.num ≡ z → not_zero z ≡ false → a ≡ whole 0
-    go (pos zero) e f = (zero_num a).0 e
-    go (pos (suc n)) e f = absurd (cc)
-    go (negsuc n) e f = absurd (cc)
 
 last_below : (n : ℕ) (a : Number) (b : Bool) → EachColumn (λ c. c < suc n) (weights (if b then (n, a) ∷ [] else []))
 last_below n a true = (omega arith, tt)

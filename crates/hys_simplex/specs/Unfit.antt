@@ -12,7 +12,7 @@ use Rattle.hys_lin.specs.declared.problem.Problem.{Problem}
 use Rattle.hys_relax.specs.Node.{Boxes, node_boxes}
 use Rattle.hys_relax.specs.LinearProgram.{LinearProgram, linear_program, row_at}
 use Rattle.hys_relax.specs.Bound.{AreLawful, costless}
-use Rattle.hys_relax.specs.BoundSum.{joined_to, bound_operations}
+use Rattle.hys_relax.specs.BoundSum.{not_zero, joined_to, bound_operations}
 use Rattle.hys_relax.specs.declared.fixing.Fixing.{Fixing}
 use Rattle.hys_relax.specs.declared.range.TablePlace.{TablePlace}
 use Rattle.hys_relax.specs.declared.range.TablePlace.TheVariants.{Cell, Value, Sum}
@@ -51,11 +51,6 @@ point_operations p x i = if i == length p.rows
     else summing (whole 0) (row_at p i).terms (λ t. x t.column)
 
 -- ---- multipliers as pairs
-abbrev pub not_zero : ℤ → Bool
-not_zero (pos zero) = false
-not_zero (pos (suc n)) = true
-not_zero (negsuc n) = true
-
 -- the rows below m with their multipliers, without those that are 0
 abbrev pub pairs_to : ℕ → (ℕ → Number) → List (ℕ × Number)
 pairs_to zero y = []
