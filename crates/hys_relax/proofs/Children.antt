@@ -1,9 +1,8 @@
 -- Nodes below a node, and points whose branch columns are 0 or 1.
-use Rattle.std.proofs.Common.{◌≡◌, ℕ, zero, suc, ◌<◌, ◌≤◌, ◌⊎◌, inl, inr, refl, sym, ◌∙◌, ap, subst, arith, Bool, true, false, ◌||◌, cond, IsTrue, List, [], ◌∷◌, ◌++◌, take, length}
+use Rattle.std.proofs.Common.{◌≡◌, ℕ, ◌<◌, ◌⊎◌, inl, inr, refl, sym, ◌∙◌, ap, subst, Bool, true, false, ◌||◌, cond, List, [], ◌∷◌, ◌++◌, take, length}
 use Rattle.std.specs.Prelude.{nat_eq}
-use Rattle.std.specs.List.{list_any}
 use Rattle.hys_number.specs.Number.{Number}
-use Rattle.hys_number.specs.Ops.{◌≤ₙ◌, whole}
+use Rattle.hys_number.specs.Ops.{whole}
 use Rattle.hys_number.proofs.Order.{le_trans, le_antisymm}
 use Rattle.hys_lin.specs.Bits.{bit, IsBit}
 use Rattle.hys_lin.specs.Sums.{Assignment, at, Within}
@@ -12,7 +11,7 @@ use Rattle.hys_lin.specs.declared.form.Interval.{Interval}
 use Rattle.hys_lin.specs.declared.problem.Problem.{Problem}
 use Rattle.hys_relax.specs.Node.{is_branch, unit_box, IsProblem, StackedSolution, is_fixed, IsNode, only, box_under, node_boxes, Inside, RelaxedPoint, Agrees}
 use Rattle.hys_relax.specs.declared.fixing.Fixing.{Fixing}
-use Rattle.hys_relax.proofs.Dense.{same_column, other_column, own_column}
+use Rattle.hys_relax.proofs.Dense.{other_column, own_column}
 use Rattle.hys_relax.proofs.Nodes.{under_within, fixable}
 
 -- ---- one fixing more

@@ -1,10 +1,10 @@
 -- Products of 0 lose nothing, so a sum may leave them out.
-use Rattle.std.proofs.Common.{◌≡◌, ℕ, refl, sym, ◌∙◌, ap, ap₂, subst, Bool, true, false, cond, if◌then◌else◌, ℤ, pos, negsuc, zero, suc, Option, Some, None, List, [], ◌∷◌, ◌++◌}
+use Rattle.std.proofs.Common.{◌≡◌, refl, ◌∙◌, ap, Bool, true, false, cond, if◌then◌else◌, ℤ, pos, negsuc, zero, suc, Some, None, List, [], ◌∷◌}
 use Rattle.hys_number.specs.Number.{Number, make}
 use Rattle.hys_number.specs.Gcd.{gcd}
-use Rattle.hys_number.specs.Ops.{◌+ₙ◌, ◌-ₙ◌, ◌*ₙ◌, neg, whole, fits}
+use Rattle.hys_number.specs.Ops.{◌+ₙ◌, ◌-ₙ◌, ◌*ₙ◌, whole, fits}
 use Rattle.hys_number.proofs.Field.{add_zero}
-use Rattle.hys_number.proofs.Ring.{by_ring, v, k, minus, ◌⊕◌, ◌⊗◌, ◌⊖◌}
+use Rattle.hys_number.proofs.Ring.{by_ring, v, k, ◌⊗◌, ◌⊖◌}
 use Rattle.hys_lin.specs.Operations.{first_lost, outcome, times, plus, minus as less, summing}
 use Rattle.hys_number.proofs.Inverse.{zero_num}
 use Rattle.hys_lin.specs.declared.form.Term.{Term}

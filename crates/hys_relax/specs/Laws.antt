@@ -1,5 +1,5 @@
 -- What the laws of this crate say.
-use Rattle.std.specs.Prelude.{◌≡◌, ℕ, zero, suc, List, [], ◌∷◌, ◌++◌, length, take, Bool, true, false, IsTrue, ◌⊎◌, if◌then◌else◌, ℤ, pos, negsuc}
+use Rattle.std.specs.Prelude.{◌≡◌, ℕ, List, [], ◌∷◌, ◌++◌, length, take, Bool, true, false, IsTrue, ◌⊎◌, if◌then◌else◌}
 use Rattle.hys_number.specs.Number.{Number}
 use Rattle.hys_number.specs.Ops.{◌≤ₙ◌, ◌<ₙ◌, whole, neg, fits}
 use Rattle.hys_lin.specs.Bits.{IsBit}

@@ -23,3 +23,4 @@ pub mod Decide
 pub mod WorkedPaths
 pub mod One
 pub mod Shown
+pub mod UpwardPath

@@ -1,7 +1,7 @@
 -- What the laws of this crate say.
 use Rattle.std.specs.Prelude.{◌≡◌, ℕ, suc, ◌<◌, ◌≤◌, ◌↔◌, List, [], ◌∷◌, ◌++◌, length, take, Some}
 use Rattle.hys_number.specs.Number.{Number}
-use Rattle.hys_number.specs.Ops.{◌≤ₙ◌, ◌<ₙ◌, ◌/ₙ◌, neg, whole, fits}
+use Rattle.hys_number.specs.Ops.{◌≤ₙ◌, ◌/ₙ◌, ◌<ₙ◌, neg, whole, fits}
 use Rattle.hys_lin.specs.Sums.{at, value}
 use Rattle.hys_lin.specs.Operations.{first_lost}
 use Rattle.hys_lin.specs.declared.lost.Lost.{Lost}
@@ -16,7 +16,7 @@ use Rattle.hys_simplex.specs.Status.{Rises, IsDualFeasible, AllInside, IsSameSta
 use Rattle.hys_simplex.specs.Rule.{IsRuled, IsBlocked, IsStranded}
 use Rattle.hys_simplex.specs.Path.{levels, IsPathAt, tableau_after, IsRun, IsLawfulPath, status_count}
 use Rattle.hys_simplex.specs.Unfit.{SomeUnfit, cost_pairs, row_pairs}
-use Rattle.hys_simplex.specs.Worked.{program, root_path, without, with_first}
+use Rattle.hys_simplex.specs.Worked.{program, root_path, without, with_first, upward, upward_node, four, five}
 
 -- no box is empty
 abbrev pub AreOrdered : ℕ → Boxes → Type 0
@@ -130,3 +130,12 @@ pub record WorkedPaths : Type 0 where
   -- over the root's boxes the rule would go on from there, but a path doesn't go back up
   pub upward : IsRuled program (node_boxes worked []) (tableau_after worked (root_path ++ (1, 1) ∷ [])) 1 1
   pub not_upward : ¬ (IsPathAt worked with_first (root_path ++ (1, 1) ∷ (1, 1) ∷ []))
+
+-- why a path doesn't go back up: over the root's boxes the rule would go on from a path at the node, and then the bound
+-- of the cost row's multipliers at the node would be below the plain bound
+pub record UpwardPath : Type 0 where
+  pub ruled : IsPathAt upward upward_node four
+  pub goes_on : IsRuled (linear_program upward) (node_boxes upward []) (tableau_after upward four) 0 2
+  pub plain : plain_bound upward ≡ neg (whole 5)
+  pub bound : node_bound upward upward_node (cost_pairs upward (tableau_after upward five)) ≡ neg (whole 191 /ₙ whole 36)
+  pub not_ruled : ¬ (IsPathAt upward upward_node five)

@@ -1,6 +1,6 @@
 -- A number of the ruled dual simplex method that doesn't fit: which place of the tableau after a path it stands at.
 -- What fits is a parameter, a test on numbers.
-use Rattle.std.specs.Prelude.{◌≡◌, ℕ, zero, suc, ◌<◌, ◌≤◌, ◌⊎◌, ◌==◌, List, [], ◌∷◌, ◌++◌, length, Bool, true, false, IsTrue, not, if◌then◌else◌, ℤ, pos, negsuc}
+use Rattle.std.specs.Prelude.{◌≡◌, ℕ, zero, suc, ◌<◌, ◌≤◌, ◌⊎◌, ◌==◌, List, [], ◌∷◌, ◌++◌, length, Bool, false, IsTrue, not, if◌then◌else◌}
 use Rattle.std.specs.List.{list_any}
 use Rattle.hys_number.specs.Number.{Number}
 use Rattle.hys_number.specs.Ops.{◌*ₙ◌, ◌-ₙ◌, ◌/ₙ◌, whole}

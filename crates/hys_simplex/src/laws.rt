@@ -4,6 +4,7 @@ ghost use Rattle.hys_simplex.specs.Laws.{PivotKeeps, PathReaches, RuledReaches, 
 ghost use Rattle.hys_simplex.specs.Laws.{CostRow, RuledRises, RuledIsLawful, BoundAfterPath};
 ghost use Rattle.hys_simplex.specs.Laws.{PathBelow, PathGoesOn, NoStatusTwice, RunEnds};
 ghost use Rattle.hys_simplex.specs.Laws.{BlockedRow, AllInsideIsLeast, LostIsUnfit, WorkedPaths};
+ghost use Rattle.hys_simplex.specs.Laws.{UpwardPath};
 
 /// A pivot keeps the solutions of the rows, in both directions.
 pub fn pivot_keeps()
@@ -90,4 +91,9 @@ pub fn lost_is_unfit()
 /// The ruled paths of a worked problem at its root and at the two nodes below.
 pub fn worked_paths()
     ensures { WorkedPaths }
+{}
+
+/// A path that goes back up to the boxes of a node above is not ruled, and why it must not be.
+pub fn upward_path()
+    ensures { UpwardPath }
 {}
