@@ -75,5 +75,6 @@ worked_bounds = record {
   with_first = refl;
   one_alone = refl;
   both = refl;
+  lost = refl;
   fits = refl;
 }

@@ -1,16 +1,16 @@
 -- What the laws of this crate say.
-use Rattle.std.specs.Prelude.{◌≡◌, ℕ, List, [], ◌∷◌, ◌++◌, length, take, Bool, true, false, IsTrue, ◌⊎◌, if◌then◌else◌}
+use Rattle.std.specs.Prelude.{◌≡◌, ℕ, List, [], ◌∷◌, ◌++◌, length, take, Some, Bool, true, false, IsTrue, ◌⊎◌, if◌then◌else◌}
 use Rattle.hys_number.specs.Number.{Number}
 use Rattle.hys_number.specs.Ops.{◌≤ₙ◌, ◌<ₙ◌, whole, neg, fits}
 use Rattle.hys_lin.specs.Bits.{IsBit}
 use Rattle.hys_lin.specs.Sums.{at, value, Within}
-use Rattle.hys_lin.specs.Operations.{first_lost, summing}
+use Rattle.hys_lin.specs.Operations.{first_lost, summing, times}
 use Rattle.hys_lin.specs.declared.form.Term.{Term}
 use Rattle.hys_lin.specs.declared.problem.Problem.{Problem}
 use Rattle.hys_relax.specs.Node.{is_branch, is_fixed, unit_box, IsProblem, StackedSolution, IsNode, Boxes, node_boxes, RelaxedPoint, Agrees}
 use Rattle.hys_relax.specs.LinearProgram.{linear_program}
 use Rattle.hys_relax.specs.Bound.{multiplier, AreMultipliers, AreLawful, IsLeastOver, lagrangian, bound_of, node_bound, plain_bound, costless}
-use Rattle.hys_relax.specs.BoundSum.{summed_coefficient, summed_constant, summed_ends, BoundFits, subtracting, not_zero}
+use Rattle.hys_relax.specs.BoundSum.{summed_coefficient, summed_constant, summed_ends, bound_lost, BoundFits, subtracting, not_zero}
 use Rattle.hys_relax.specs.Worked.{worked, fix, on_equation, on_both, on_demand}
 use Rattle.hys_relax.specs.declared.fixing.Fixing.{Fixing}
 
@@ -100,4 +100,6 @@ pub record WorkedBounds : Type 0 where
   pub one_alone : node_bound worked (fix 1 true ∷ fix 2 false ∷ []) on_equation ≡ neg (whole 3)
   -- with both at 1
   pub both : node_bound (costless worked) (fix 1 true ∷ fix 2 true ∷ []) on_demand ≡ whole 1
+  -- a multiplier whose product with the coefficient -3 doesn't fit is the left operand
+  pub lost : bound_lost worked (fix 1 false ∷ []) ((1, whole 9223372036854775807) ∷ []) ≡ Some (times (whole 9223372036854775807) (neg (whole 3)))
   pub fits : BoundFits worked (fix 1 true ∷ fix 2 false ∷ []) on_equation

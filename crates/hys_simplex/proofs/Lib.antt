@@ -24,3 +24,4 @@ pub mod WorkedPaths
 pub mod One
 pub mod Shown
 pub mod UpwardPath
+pub mod WorkedUnfit

@@ -11,12 +11,13 @@ use Rattle.hys_relax.specs.LinearProgram.{LinearProgram, linear_program}
 use Rattle.hys_relax.specs.Bound.{multiplier, AreMultipliers, AreLawful, bound_of, node_bound, costless, plain_bound}
 use Rattle.hys_relax.specs.Worked.{worked}
 use Rattle.hys_relax.specs.declared.fixing.Fixing.{Fixing}
+use Rattle.hys_relax.specs.declared.range.TablePlace.TheVariants.{Cell}
 use Rattle.hys_simplex.specs.Tableau.{Tableau, start, pivot, after, ArePivots, Solves, IsOf, cost_multiplier}
 use Rattle.hys_simplex.specs.Status.{Rises, IsDualFeasible, AllInside, IsSameStatus, status_value, status_point, place_var}
 use Rattle.hys_simplex.specs.Rule.{IsRuled, IsBlocked, IsStranded}
 use Rattle.hys_simplex.specs.Path.{levels, IsPathAt, tableau_after, IsRun, IsLawfulPath, status_count}
-use Rattle.hys_simplex.specs.Unfit.{SomeUnfit, cost_pairs, row_pairs}
-use Rattle.hys_simplex.specs.Worked.{program, root_path, without, with_first, upward, upward_node, four, five}
+use Rattle.hys_simplex.specs.Unfit.{SomeUnfit, cost_pairs, row_pairs, Unfit}
+use Rattle.hys_simplex.specs.Worked.{program, root_path, without, with_first, upward, upward_node, four, five, decaying}
 
 -- no box is empty
 abbrev pub AreOrdered : ℕ → Boxes → Type 0
@@ -139,3 +140,10 @@ pub record UpwardPath : Type 0 where
   pub plain : plain_bound upward ≡ neg (whole 5)
   pub bound : node_bound upward upward_node (cost_pairs upward (tableau_after upward five)) ≡ neg (whole 191 /ₙ whole 36)
   pub not_ruled : ¬ (IsPathAt upward upward_node five)
+
+-- numbers that don't fit: in the decaying problem, after its first pivot, the cube of the factor in the last row under the
+-- second; and none at once, nor ever at a cell of the worked problem after its path
+pub record WorkedUnfit : Type 0 where
+  pub cube : Unfit fits decaying [] ((0, 2) ∷ []) (Cell 2 0)
+  pub not_at_once : ¬ (Unfit fits worked [] [] (Cell 0 0))
+  pub not_after : (i j : ℕ) → ¬ (Unfit fits worked [] root_path (Cell i j))

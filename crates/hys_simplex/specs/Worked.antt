@@ -1,5 +1,5 @@
 -- Ruled paths of the worked problem.
-use Rattle.std.specs.Prelude.{ℕ, List, [], ◌∷◌, true, false}
+use Rattle.std.specs.Prelude.{ℕ, ◌+◌, ◌*◌, List, [], ◌∷◌, true, false}
 use Rattle.hys_number.specs.Number.{Number}
 use Rattle.hys_number.specs.Ops.{whole, neg, ◌/ₙ◌}
 use Rattle.hys_lin.specs.declared.form.Term.{Term}
@@ -50,3 +50,24 @@ four = (0, 3) ∷ (1, 0) ∷ (1, 5) ∷ (2, 4) ∷ []
 
 abbrev pub five : List (ℕ × ℕ)
 five = (0, 3) ∷ (1, 0) ∷ (1, 5) ∷ (2, 4) ∷ (0, 2) ∷ []
+
+-- ---- a problem that meets a number that doesn't fit: a state that decays by the factor 0.123456789, over three steps
+abbrev pub decay : Number
+decay = neg (whole 123456789 /ₙ whole 1000000000)
+
+abbrev pub step_row : ℕ → Row
+step_row t = record { terms = term (2 * t) decay ∷ term (2 * t + 1) (neg (whole 1)) ∷ term (2 * t + 2) (whole 1) ∷ []; bound = whole 0; eq = true }
+
+abbrev pub wide : Interval
+wide = box (neg (whole 10)) (whole 10)
+
+abbrev pub signed : Interval
+signed = box (neg (whole 1)) (whole 1)
+
+abbrev pub decaying : Problem
+decaying = record {
+  boxes = box (whole 1) (whole 1) ∷ signed ∷ wide ∷ signed ∷ wide ∷ signed ∷ wide ∷ [];
+  rows = step_row 0 ∷ step_row 1 ∷ step_row 2 ∷ [];
+  cost = record { terms = term 6 (whole 1) ∷ []; constant = whole 0 };
+  branch = [];
+}

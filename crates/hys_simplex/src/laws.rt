@@ -4,7 +4,7 @@ ghost use Rattle.hys_simplex.specs.Laws.{PivotKeeps, PathReaches, RuledReaches, 
 ghost use Rattle.hys_simplex.specs.Laws.{CostRow, RuledRises, RuledIsLawful, BoundAfterPath};
 ghost use Rattle.hys_simplex.specs.Laws.{PathBelow, PathGoesOn, NoStatusTwice, RunEnds};
 ghost use Rattle.hys_simplex.specs.Laws.{BlockedRow, AllInsideIsLeast, LostIsUnfit, WorkedPaths};
-ghost use Rattle.hys_simplex.specs.Laws.{UpwardPath};
+ghost use Rattle.hys_simplex.specs.Laws.{UpwardPath, WorkedUnfit};
 
 /// A pivot keeps the solutions of the rows, in both directions.
 pub fn pivot_keeps()
@@ -96,4 +96,9 @@ pub fn worked_paths()
 /// A path that goes back up to the boxes of a node above is not ruled, and why it must not be.
 pub fn upward_path()
     ensures { UpwardPath }
+{}
+
+/// Numbers of worked problems that don't fit, and that do.
+pub fn worked_unfit()
+    ensures { WorkedUnfit }
 {}
