@@ -76,5 +76,6 @@ worked_bounds = record {
   one_alone = refl;
   both = refl;
   lost = refl;
+  lost_first = refl;
   fits = refl;
 }

@@ -102,4 +102,6 @@ pub record WorkedBounds : Type 0 where
   pub both : node_bound (costless worked) (fix 1 true ∷ fix 2 true ∷ []) on_demand ≡ whole 1
   -- a multiplier whose product with the coefficient -3 doesn't fit is the left operand
   pub lost : bound_lost worked (fix 1 false ∷ []) ((1, whole 9223372036854775807) ∷ []) ≡ Some (times (whole 9223372036854775807) (neg (whole 3)))
+  -- a coefficient is lost before the constant
+  pub lost_first : bound_lost worked [] ((0, whole 9223372036854775807) ∷ []) ≡ Some (times (whole 9223372036854775807) (whole 3))
   pub fits : BoundFits worked (fix 1 true ∷ fix 2 false ∷ []) on_equation

@@ -1,13 +1,16 @@
 -- The laws, put together.
-use Rattle.std.proofs.Common.{◌≡◌, refl, sym, ◌∙◌, Bool, true, false, not, ◌||◌, cond, Some, [], ◌∷◌, length}
+use Rattle.std.proofs.Common.{inl, inr, ◌≡◌, refl, sym, ◌∙◌, Bool, true, false, not, ◌||◌, cond, Some, [], ◌∷◌, length}
 use Rattle.std.specs.List.{list_any}
 use Rattle.hys_number.specs.Ops.{fits}
 use Rattle.hys_lin.specs.Operations.{first_lost, outcome}
 use Rattle.hys_relax.specs.LinearProgram.{linear_program}
 use Rattle.hys_simplex.specs.Tableau.{start, cost_multiplier, row_multiplier}
-use Rattle.hys_simplex.specs.Path.{levels}
+use Rattle.hys_simplex.specs.Path.{levels, tableau_after}
 use Rattle.hys_simplex.specs.Unfit.{SomeUnfit}
-use Rattle.hys_simplex.specs.Laws.{PivotKeeps, PathReaches, RuledReaches, OneRuled, CostRow, RuledRises, RuledIsLawful, BoundAfterPath, PathBelow, PathGoesOn, NoStatusTwice, RunEnds, BlockedRow, AllInsideIsLeast, LostIsUnfit}
+use Rattle.hys_simplex.specs.Laws.{PivotKeeps, PathReaches, RuledReaches, OneRuled, CostRow, RuledRises, RuledIsLawful, BoundAfterPath, PathBelow, PathGoesOn, NoStatusTwice, RunEnds, BlockedRow, AllInsideIsLeast, LostIsUnfit, StrandedShowsNone, RuledPlace, UnfitIsRuled}
+use Rattle.hys_relax.specs.Node.{node_boxes}
+use Rattle.hys_relax.specs.declared.range.TablePlace.TheVariants.{Cell, Value, Sum}
+use Rattle.hys_simplex.proofs.Points.{stranded_none}
 use Rattle.hys_simplex.proofs.Places.{start_of}
 use Rattle.hys_simplex.proofs.Pairs.{are_multipliers}
 use Rattle.hys_simplex.proofs.Stranded.{stranded}
@@ -76,3 +79,23 @@ lost_is_unfit (o ∷ os) lost e = go (fits (outcome o)) e (lost_is_unfit os lost
     go : (b : Bool) → cond b (first_lost os) (Some o) ≡ Some lost → (first_lost os ≡ Some lost → SomeUnfit fits os) → (not b || list_any (λ o. not (fits (outcome o))) os) ≡ true
     go true f h = h f
     go false f h = refl
+
+pub stranded_shows_none : StrandedShowsNone
+stranded_shows_none = stranded_none
+
+pub unfit_is_ruled : UnfitIsRuled
+unfit_is_ruled fits p fixings path (Cell i j) h = (h.0, (h.1.row, h.1.column, h.1.ruled))
+unfit_is_ruled fits p fixings path (Value i) h = (
+  h.0,
+  elim h.1 as (λ _. RuledPlace p (node_boxes p fixings) (tableau_after p path) (Value i)) [
+    | inl w ↦ λ q l m. w.1 q l
+    | inr w ↦ λ q l m. w.1 q m
+  ],
+)
+unfit_is_ruled fits p fixings path Sum h = (
+  h.0,
+  elim h.1 as (λ _. RuledPlace p (node_boxes p fixings) (tableau_after p path) Sum) [
+    | inl w ↦ inl w.0
+    | inr w ↦ inr (w.row, w.side, w.near, w.leaving, w.stranded)
+  ],
+)

@@ -1,20 +1,21 @@
 -- What the laws of this crate say.
-use Rattle.std.specs.Prelude.{◌≡◌, ℕ, suc, ◌<◌, ◌≤◌, ◌↔◌, List, [], ◌∷◌, ◌++◌, length, take, Some}
+use Rattle.std.specs.Prelude.{◌≡◌, ℕ, suc, ◌<◌, ◌≤◌, ◌↔◌, List, [], ◌∷◌, ◌++◌, length, take, Some, Bool, ◌⊎◌}
 use Rattle.hys_number.specs.Number.{Number}
 use Rattle.hys_number.specs.Ops.{◌≤ₙ◌, ◌/ₙ◌, ◌<ₙ◌, neg, whole, fits}
 use Rattle.hys_lin.specs.Sums.{at, value}
 use Rattle.hys_lin.specs.Operations.{first_lost}
 use Rattle.hys_lin.specs.declared.lost.Lost.{Lost}
 use Rattle.hys_lin.specs.declared.problem.Problem.{Problem}
-use Rattle.hys_relax.specs.Node.{Boxes, IsProblem, IsNode, node_boxes, IsLeastRelaxed}
+use Rattle.hys_relax.specs.Node.{Boxes, IsProblem, IsNode, node_boxes, RelaxedPoint, IsLeastRelaxed}
 use Rattle.hys_relax.specs.LinearProgram.{LinearProgram, linear_program}
 use Rattle.hys_relax.specs.Bound.{multiplier, AreMultipliers, AreLawful, bound_of, node_bound, costless, plain_bound}
 use Rattle.hys_relax.specs.Worked.{worked}
 use Rattle.hys_relax.specs.declared.fixing.Fixing.{Fixing}
-use Rattle.hys_relax.specs.declared.range.TablePlace.TheVariants.{Cell}
+use Rattle.hys_relax.specs.declared.range.TablePlace.{TablePlace}
+use Rattle.hys_relax.specs.declared.range.TablePlace.TheVariants.{Cell, Value, Sum}
 use Rattle.hys_simplex.specs.Tableau.{Tableau, start, pivot, after, ArePivots, Solves, IsOf, cost_multiplier}
-use Rattle.hys_simplex.specs.Status.{Rises, IsDualFeasible, AllInside, IsSameStatus, status_value, status_point, place_var}
-use Rattle.hys_simplex.specs.Rule.{IsRuled, IsBlocked, IsStranded}
+use Rattle.hys_simplex.specs.Status.{Rises, IsDualFeasible, InRange, basic_value, AllInside, IsSameStatus, status_value, status_point, place_var}
+use Rattle.hys_simplex.specs.Rule.{IsLeaving, IsRuled, IsBlocked, IsStranded}
 use Rattle.hys_simplex.specs.Path.{levels, IsPathAt, tableau_after, IsRun, IsLawfulPath, status_count}
 use Rattle.hys_simplex.specs.Unfit.{SomeUnfit, cost_pairs, row_pairs, Unfit}
 use Rattle.hys_simplex.specs.Worked.{program, root_path, without, with_first, upward, upward_node, four, five, decaying}
@@ -111,6 +112,22 @@ pub record PointIsLeast (p : Problem) (fixings : List Fixing) (T : Tableau) : Ty
 abbrev pub AllInsideIsLeast : Type 0
 AllInsideIsLeast = (p : Problem) (fixings : List Fixing) (T : Tableau) → IsProblem p → IsReached (linear_program p) T → AllInside (linear_program p) (node_boxes p fixings) T →
     PointIsLeast p fixings T
+
+-- a row that can't be brought to its range shows that the node has no relaxed point
+abbrev pub StrandedShowsNone : Type 0
+StrandedShowsNone = (p : Problem) (fixings : List Fixing) (T : Tableau) (r : ℕ) (side near : Number) (v : List Number) → IsProblem p → IsOf (linear_program p) T → r < length p.rows →
+    IsStranded (linear_program p) (node_boxes p fixings) T r side near → RelaxedPoint p fixings v → ⊥
+
+-- which rows are known to be inside where a number doesn't fit: under a cell the next pivot is the rule's, under a value no
+-- row before it is outside, and under a sum no row at all or none before the one that can't be brought to its range
+abbrev pub RuledPlace : Problem → Boxes → Tableau → TablePlace → Type 0
+RuledPlace p B T (Cell i j) = (r : ℕ) × (c : ℕ) × IsRuled (linear_program p) B T r c
+RuledPlace p B T (Value i) = (q : ℕ) → q < i → q < length p.rows → InRange (linear_program p) B (T.basic q) (basic_value (linear_program p) B T q)
+RuledPlace p B T Sum = AllInside (linear_program p) B T ⊎ ((r : ℕ) × (side : Number) × (near : Number) × IsLeaving (linear_program p) B T r side near × IsStranded (linear_program p) B T r side near)
+
+abbrev pub UnfitIsRuled : Type 0
+UnfitIsRuled = (fits : Number → Bool) (p : Problem) (fixings : List Fixing) (path : List (ℕ × ℕ)) (place : TablePlace) → Unfit fits p fixings path place →
+    IsPathAt p fixings path × RuledPlace p (node_boxes p fixings) (tableau_after p path) place
 
 -- what a sum shows as lost is a number of it that doesn't fit
 abbrev pub LostIsUnfit : Type 0

@@ -4,7 +4,7 @@ ghost use Rattle.hys_simplex.specs.Laws.{PivotKeeps, PathReaches, RuledReaches, 
 ghost use Rattle.hys_simplex.specs.Laws.{CostRow, RuledRises, RuledIsLawful, BoundAfterPath};
 ghost use Rattle.hys_simplex.specs.Laws.{PathBelow, PathGoesOn, NoStatusTwice, RunEnds};
 ghost use Rattle.hys_simplex.specs.Laws.{BlockedRow, AllInsideIsLeast, LostIsUnfit, WorkedPaths};
-ghost use Rattle.hys_simplex.specs.Laws.{UpwardPath, WorkedUnfit};
+ghost use Rattle.hys_simplex.specs.Laws.{StrandedShowsNone, UnfitIsRuled, UpwardPath, WorkedUnfit};
 
 /// A pivot keeps the solutions of the rows, in both directions.
 pub fn pivot_keeps()
@@ -81,6 +81,16 @@ pub fn blocked_row()
 /// cost, and its cost is the bound of the cost row's multipliers.
 pub fn all_inside_is_least()
     ensures { AllInsideIsLeast }
+{}
+
+/// A row whose basic value can't be brought to its range shows that the node has no relaxed point.
+pub fn stranded_shows_none()
+    ensures { StrandedShowsNone }
+{}
+
+/// Which rows are inside their ranges where a number doesn't fit.
+pub fn unfit_is_ruled()
+    ensures { UnfitIsRuled }
 {}
 
 /// What a sum shows as lost is one of its operations that doesn't fit.
