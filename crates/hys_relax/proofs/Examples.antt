@@ -77,5 +77,6 @@ worked_bounds = record {
   both = refl;
   lost = refl;
   lost_first = refl;
+  lost_end = refl;
   fits = refl;
 }

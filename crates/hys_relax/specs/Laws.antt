@@ -104,4 +104,6 @@ pub record WorkedBounds : Type 0 where
   pub lost : bound_lost worked (fix 1 false ∷ []) ((1, whole 9223372036854775807) ∷ []) ≡ Some (times (whole 9223372036854775807) (neg (whole 3)))
   -- a coefficient is lost before the constant
   pub lost_first : bound_lost worked [] ((0, whole 9223372036854775807) ∷ []) ≡ Some (times (whole 9223372036854775807) (whole 3))
+  -- at the end of a box the coefficient is the left operand
+  pub lost_end : bound_lost worked [] ((1, neg (whole 1000000000000000000)) ∷ []) ≡ Some (times (neg (whole 1000000000000000001)) (whole 10))
   pub fits : BoundFits worked (fix 1 true ∷ fix 2 false ∷ []) on_equation

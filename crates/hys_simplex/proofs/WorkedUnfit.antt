@@ -6,15 +6,15 @@ use Rattle.hys_number.specs.Ops.{◌+ₙ◌, ◌*ₙ◌, neg, inverse, whole, fi
 use Rattle.hys_relax.specs.Node.{node_boxes}
 use Rattle.hys_relax.specs.LinearProgram.{linear_program}
 use Rattle.hys_relax.specs.Worked.{worked}
-use Rattle.hys_relax.specs.declared.range.TablePlace.TheVariants.{Cell}
+use Rattle.hys_relax.specs.declared.range.TablePlace.TheVariants.{Cell, Value}
 use Rattle.hys_relax.proofs.Nodes.{node_ordered}
 use Rattle.hys_relax.proofs.Examples.{worked_problem}
 use Rattle.hys_simplex.specs.Tableau.{start, pivoted}
 use Rattle.hys_simplex.specs.Status.{basic_value}
 use Rattle.hys_simplex.specs.Rule.{IsRuled}
 use Rattle.hys_simplex.specs.Path.{tableau_after}
-use Rattle.hys_simplex.specs.Unfit.{CellUnfit, subtracted, PivotUnfit, Unfit}
-use Rattle.hys_simplex.specs.Worked.{program, root_path, decaying}
+use Rattle.hys_simplex.specs.Unfit.{SomeUnfit, value_operations, CellUnfit, subtracted, PivotUnfit, Unfit}
+use Rattle.hys_simplex.specs.Worked.{program, root_path, decaying, tripled}
 use Rattle.hys_simplex.specs.Laws.{WorkedUnfit}
 use Rattle.hys_simplex.proofs.Places.{start_of}
 use Rattle.hys_simplex.proofs.Decide.{rule_test, beneath, beyond, rule_yes, inside_not_off}
@@ -38,6 +38,14 @@ cube = (
   (0, omega arith, omega arith, rule_yes (linear_program decaying) (node_boxes decaying []) (start (linear_program decaying)) beyond 0 2 first, tt),
   record { row = 1; column = 4; ruled = rule_yes (linear_program decaying) (node_boxes decaying []) (tableau_after decaying ((0, 2) ∷ [])) beyond 1 4 second; in_rows = omega arith; in_columns = omega arith; unfit = inl cell_unfit },
 )
+
+-- ---- a basic value
+product_unfit : SomeUnfit fits (value_operations (linear_program tripled) (node_boxes tripled []) (start (linear_program tripled)) 0)
+unfolding ◌+ₙ◌ ◌*ₙ◌ neg inverse whole make gcd fits
+product_unfit = refl
+
+value : Unfit fits tripled [] [] (Value 0)
+value = (tt, inl (omega arith, λ i l. absurd (omega arith), product_unfit))
 
 -- ---- the worked problem
 at_start : rule_test program (node_boxes worked []) (start program) beneath 1 2 ≡ true
@@ -72,4 +80,4 @@ not_after i j h = let q : IsRuled program (node_boxes worked []) (tableau_after 
     (root_inside h.1.row q.leaving.row) q.leaving.off
 
 pub worked_unfit : WorkedUnfit
-worked_unfit = record { cube = cube; not_at_once = not_at_once; not_after = not_after }
+worked_unfit = record { value = value; cube = cube; not_at_once = not_at_once; not_after = not_after }

@@ -18,7 +18,7 @@ use Rattle.hys_simplex.specs.Status.{Rises, IsDualFeasible, InRange, basic_value
 use Rattle.hys_simplex.specs.Rule.{IsLeaving, IsRuled, IsBlocked, IsStranded}
 use Rattle.hys_simplex.specs.Path.{levels, IsPathAt, tableau_after, IsRun, IsLawfulPath, status_count}
 use Rattle.hys_simplex.specs.Unfit.{SomeUnfit, cost_pairs, row_pairs, Unfit}
-use Rattle.hys_simplex.specs.Worked.{program, root_path, without, with_first, upward, upward_node, four, five, decaying}
+use Rattle.hys_simplex.specs.Worked.{program, root_path, without, with_first, upward, upward_node, four, five, decaying, tripled}
 
 -- no box is empty
 abbrev pub AreOrdered : ℕ → Boxes → Type 0
@@ -158,9 +158,10 @@ pub record UpwardPath : Type 0 where
   pub bound : node_bound upward upward_node (cost_pairs upward (tableau_after upward five)) ≡ neg (whole 191 /ₙ whole 36)
   pub not_ruled : ¬ (IsPathAt upward upward_node five)
 
--- numbers that don't fit: in the decaying problem, after its first pivot, the cube of the factor in the last row under the
+-- numbers that don't fit: in the tripled problem the first basic value at the start; in the decaying problem, after its first pivot, the cube of the factor in the last row under the
 -- second; and none at once, nor ever at a cell of the worked problem after its path
 pub record WorkedUnfit : Type 0 where
+  pub value : Unfit fits tripled [] [] (Value 0)
   pub cube : Unfit fits decaying [] ((0, 2) ∷ []) (Cell 2 0)
   pub not_at_once : ¬ (Unfit fits worked [] [] (Cell 0 0))
   pub not_after : (i j : ℕ) → ¬ (Unfit fits worked [] root_path (Cell i j))

@@ -71,3 +71,12 @@ decaying = record {
   cost = record { terms = term 6 (whole 1) ∷ []; constant = whole 0 };
   branch = [];
 }
+
+-- ---- a problem whose first basic value doesn't fit: three times a column that stands at its high end
+abbrev pub tripled : Problem
+tripled = record {
+  boxes = box (whole 0) (whole 9223372036854775807) ∷ [];
+  rows = at_most_row (term 0 (whole 3) ∷ []) (whole 0) ∷ [];
+  cost = record { terms = term 0 (neg (whole 1)) ∷ []; constant = whole 0 };
+  branch = [];
+}
