@@ -22,6 +22,7 @@ pub mod NodePaths
 pub mod Decide
 pub mod WorkedPaths
 pub mod One
+pub mod Alike
 pub mod Points
 pub mod Shown
 pub mod UpwardPath

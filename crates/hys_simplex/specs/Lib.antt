@@ -3,5 +3,6 @@ pub mod Status
 pub mod Rule
 pub mod Path
 pub mod Unfit
+pub mod Alike
 pub mod Worked
 pub mod Laws
