@@ -1,18 +1,17 @@
 -- Tableaux that agree at their places say the same.
-use Rattle.std.proofs.Common.{◌≡◌, ℕ, zero, suc, ◌+◌, ◌-◌, ◌<◌, ◌≤◌, ◌↔◌, ◌⊎◌, inl, inr, refl, sym, ◌∙◌, ap, ap₂, subst, arith, Bool, true, false, if◌then◌else◌, ◌==◌, ℤ, pos, negsuc, Option, Some, None, List, [], ◌∷◌, ◌++◌, length}
+use Rattle.std.proofs.Common.{◌≡◌, ℕ, zero, suc, ◌+◌, ◌<◌, ◌≤◌, refl, sym, ◌∙◌, ap, ap₂, subst, arith, Bool, true, false, if◌then◌else◌, ◌==◌, List, [], ◌∷◌, ◌++◌, length}
 use Rattle.hys_number.specs.Number.{Number}
-use Rattle.hys_number.specs.Ops.{◌+ₙ◌, ◌*ₙ◌, ◌-ₙ◌, ◌/ₙ◌, neg, inverse, ◌≤ₙ◌, ◌<ₙ◌, whole}
+use Rattle.hys_number.specs.Ops.{◌+ₙ◌, ◌*ₙ◌, ◌-ₙ◌, ◌/ₙ◌, neg, inverse}
 use Rattle.hys_number.specs.Sums.{sum_to}
 use Rattle.hys_number.proofs.Sums.{sum_to-same}
 use Rattle.hys_lin.specs.Operations.{times, minus}
-use Rattle.hys_lin.specs.declared.lost.Lost.{Lost}
 use Rattle.hys_lin.specs.declared.problem.Problem.{Problem}
 use Rattle.hys_relax.specs.Node.{Boxes}
 use Rattle.hys_relax.specs.LinearProgram.{LinearProgram, linear_program}
 use Rattle.hys_relax.specs.BoundSum.{joined_to, not_zero}
-use Rattle.hys_simplex.specs.Tableau.{Tableau, put, pivoted, pivot, line, Solves, unit, coef, cost_multiplier, row_multiplier}
+use Rattle.hys_simplex.specs.Tableau.{Tableau, put, pivot, line, Solves, unit, coef, cost_multiplier, row_multiplier}
 use Rattle.hys_simplex.specs.Alike.{IsAlike}
-use Rattle.hys_simplex.specs.Status.{edge, place_var, raised, first_sign, is_positive, is_raised_above, lower, upper, end_or, end_value, basic_value, status_value, values_to, status_point, InRange, IsOff, AllInside}
+use Rattle.hys_simplex.specs.Status.{edge, place_var, raised, first_sign, is_positive, is_raised_above, lower, upper, end_or, end_value, basic_value, status_value, values_to, status_point, InRange, AllInside}
 use Rattle.hys_simplex.specs.Unfit.{value_operations, pairs_to, cost_pairs, row_pairs}
 
 pub alike_refl : (T : Tableau) → IsAlike T T
@@ -131,8 +130,8 @@ joined_alike n n' f g e h = go n h ∙ ap (λ z. joined_to z g) e
 
 pub operations_alike : (P : LinearProgram) (B : Boxes) (T T' : Tableau) → IsAlike T T' → (i : ℕ) → i ≤ T.rows → value_operations P B T i ≡ value_operations P B T' i
 operations_alike P B T T' h i l = joined_alike T.columns T'.columns _ _ h.wide (λ j m. same
-      (h.cells i j l (omega arith)) (end_alike P B T T' h j m) (h.cells i T.columns l (omega arith) ∙ ap (T'.cell i) h.wide)
-      (sum_alike j j _ _ refl (λ q n. ap₂ ◌*ₙ◌ (h.cells i q l (omega arith)) (end_alike P B T T' h q (omega arith)))))
+    (h.cells i j l (omega arith)) (end_alike P B T T' h j m) (h.cells i T.columns l (omega arith) ∙ ap (T'.cell i) h.wide)
+    (sum_alike j j _ _ refl (λ q n. ap₂ ◌*ₙ◌ (h.cells i q l (omega arith)) (end_alike P B T T' h q (omega arith)))))
   where
     same : {a a' x x' c c' s s' : Number} → a ≡ a' → x ≡ x' → c ≡ c' → s ≡ s' → (times a x ∷ minus (c -ₙ s) (a *ₙ x) ∷ []) ≡ (times a' x' ∷ minus (c' -ₙ s') (a' *ₙ x') ∷ [])
     same ea ex ec es = ap₂ (λ f g. f ∷ g ∷ []) (ap₂ times ea ex) (ap₂ minus (ap₂ ◌-ₙ◌ ec es) (ap₂ ◌*ₙ◌ ea ex))

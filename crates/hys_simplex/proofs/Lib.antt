@@ -23,6 +23,7 @@ pub mod Decide
 pub mod WorkedPaths
 pub mod One
 pub mod Alike
+pub mod AlikeRules
 pub mod Points
 pub mod Shown
 pub mod UpwardPath

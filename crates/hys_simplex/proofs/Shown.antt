@@ -7,9 +7,12 @@ use Rattle.hys_relax.specs.LinearProgram.{linear_program}
 use Rattle.hys_simplex.specs.Tableau.{start, cost_multiplier, row_multiplier}
 use Rattle.hys_simplex.specs.Path.{levels, tableau_after}
 use Rattle.hys_simplex.specs.Unfit.{SomeUnfit}
-use Rattle.hys_simplex.specs.Laws.{PivotKeeps, PathReaches, RuledReaches, OneRuled, CostRow, RuledRises, RuledIsLawful, BoundAfterPath, PathBelow, PathGoesOn, NoStatusTwice, RunEnds, BlockedRow, AllInsideIsLeast, LostIsUnfit, StrandedShowsNone, RuledPlace, UnfitIsRuled}
+use Rattle.hys_simplex.specs.Laws.{PivotKeeps, PathReaches, RuledReaches, OneRuled, CostRow, RuledRises, RuledIsLawful, BoundAfterPath, PathBelow, PathGoesOn, NoStatusTwice, RunEnds, BlockedRow, AllInsideIsLeast, LostIsUnfit, AlikePivots, AlikeSay, StrandedShowsNone, RuledPlace, UnfitIsRuled}
 use Rattle.hys_relax.specs.Node.{node_boxes}
 use Rattle.hys_relax.specs.declared.range.TablePlace.TheVariants.{Cell, Value, Sum}
+use Rattle.hys_simplex.specs.Alike.{IsAlike}
+use Rattle.hys_simplex.proofs.Alike.{alike_sym, pivot_alike, basic_alike, all_inside_alike, point_alike, cost_pairs_alike}
+use Rattle.hys_simplex.proofs.AlikeRules.{ruled_alike, blocked_alike, unfit_alike}
 use Rattle.hys_simplex.proofs.Points.{stranded_none}
 use Rattle.hys_simplex.proofs.Places.{start_of}
 use Rattle.hys_simplex.proofs.Pairs.{are_multipliers}
@@ -99,3 +102,17 @@ unfit_is_ruled fits p fixings path Sum h = (
     | inr w ↦ inr (w.row, w.side, w.near, w.leaving, w.stranded)
   ],
 )
+
+pub alike_pivots : AlikePivots
+alike_pivots = pivot_alike
+
+pub alike_say : AlikeSay
+alike_say p B T T' h w t = let g : IsAlike T' T = alike_sym T T' h in let w' : T'.columns ≡ length p.boxes = sym h.wide ∙ w in let t' : T'.rows ≡ length p.rows = sym h.tall ∙ t in record {
+  ruled = λ r c. (ruled_alike (linear_program p) B T T' h w t r c, ruled_alike (linear_program p) B T' T g w' t' r c);
+  blocked = λ r side near. (blocked_alike (linear_program p) B T T' h w t r side near, blocked_alike (linear_program p) B T' T g w' t' r side near);
+  values = λ i l. basic_alike (linear_program p) B T T' h i (rw t l);
+  inside = (all_inside_alike (linear_program p) B T T' h t, all_inside_alike (linear_program p) B T' T g t');
+  point = point_alike (linear_program p) B T T' h;
+  pairs = cost_pairs_alike p T T' h t;
+  unfit = λ fits place. (unfit_alike fits p B T T' place h w t, unfit_alike fits p B T' T place g w' t');
+}

@@ -17,7 +17,8 @@ use Rattle.hys_simplex.specs.Tableau.{Tableau, start, pivot, after, ArePivots, S
 use Rattle.hys_simplex.specs.Status.{Rises, IsDualFeasible, InRange, basic_value, AllInside, IsSameStatus, status_value, status_point, place_var}
 use Rattle.hys_simplex.specs.Rule.{IsLeaving, IsRuled, IsBlocked, IsStranded}
 use Rattle.hys_simplex.specs.Path.{levels, IsPathAt, tableau_after, IsRun, IsLawfulPath, status_count}
-use Rattle.hys_simplex.specs.Unfit.{SomeUnfit, cost_pairs, row_pairs, Unfit}
+use Rattle.hys_simplex.specs.Unfit.{SomeUnfit, cost_pairs, row_pairs, UnfitAt, Unfit}
+use Rattle.hys_simplex.specs.Alike.{IsAlike}
 use Rattle.hys_simplex.specs.Worked.{program, root_path, without, with_first, upward, upward_node, four, five, decaying, tripled}
 
 -- no box is empty
@@ -128,6 +129,22 @@ RuledPlace p B T Sum = AllInside (linear_program p) B T ⊎ ((r : ℕ) × (side 
 abbrev pub UnfitIsRuled : Type 0
 UnfitIsRuled = (fits : Number → Bool) (p : Problem) (fixings : List Fixing) (path : List (ℕ × ℕ)) (place : TablePlace) → Unfit fits p fixings path place →
     IsPathAt p fixings path × RuledPlace p (node_boxes p fixings) (tableau_after p path) place
+
+-- what two tableaux that agree at their places have in common
+pub record SaysTheSame (p : Problem) (B : Boxes) (T T' : Tableau) : Type 0 where
+  pub ruled : (r c : ℕ) → IsRuled (linear_program p) B T r c ↔ IsRuled (linear_program p) B T' r c
+  pub blocked : (r : ℕ) (side near : Number) → IsBlocked (linear_program p) B T r side near ↔ IsBlocked (linear_program p) B T' r side near
+  pub values : (i : ℕ) → i ≤ length p.rows → basic_value (linear_program p) B T i ≡ basic_value (linear_program p) B T' i
+  pub inside : AllInside (linear_program p) B T ↔ AllInside (linear_program p) B T'
+  pub point : status_point (linear_program p) B T ≡ status_point (linear_program p) B T'
+  pub pairs : cost_pairs p T ≡ cost_pairs p T'
+  pub unfit : (fits : Number → Bool) (place : TablePlace) → UnfitAt fits p B T place ↔ UnfitAt fits p B T' place
+
+abbrev pub AlikeSay : Type 0
+AlikeSay = (p : Problem) (B : Boxes) (T T' : Tableau) → IsAlike T T' → T.columns ≡ length p.boxes → T.rows ≡ length p.rows → SaysTheSame p B T T'
+
+abbrev pub AlikePivots : Type 0
+AlikePivots = (T T' : Tableau) (r c : ℕ) → IsAlike T T' → r < T.rows → c < T.columns → IsAlike (pivot T r c) (pivot T' r c)
 
 -- what a sum shows as lost is a number of it that doesn't fit
 abbrev pub LostIsUnfit : Type 0

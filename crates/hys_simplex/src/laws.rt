@@ -5,6 +5,7 @@ ghost use Rattle.hys_simplex.specs.Laws.{CostRow, RuledRises, RuledIsLawful, Bou
 ghost use Rattle.hys_simplex.specs.Laws.{PathBelow, PathGoesOn, NoStatusTwice, RunEnds};
 ghost use Rattle.hys_simplex.specs.Laws.{BlockedRow, AllInsideIsLeast, LostIsUnfit, WorkedPaths};
 ghost use Rattle.hys_simplex.specs.Laws.{StrandedShowsNone, UnfitIsRuled, UpwardPath, WorkedUnfit};
+ghost use Rattle.hys_simplex.specs.Laws.{AlikePivots, AlikeSay};
 
 /// A pivot keeps the solutions of the rows, in both directions.
 pub fn pivot_keeps()
@@ -91,6 +92,16 @@ pub fn stranded_shows_none()
 /// Which rows are inside their ranges where a number doesn't fit.
 pub fn unfit_is_ruled()
     ensures { UnfitIsRuled }
+{}
+
+/// Tableaux that agree at their places do so after the same pivot.
+pub fn alike_pivots()
+    ensures { AlikePivots }
+{}
+
+/// Tableaux that agree at their places have the same statuses, pivots and numbers that don't fit.
+pub fn alike_say()
+    ensures { AlikeSay }
 {}
 
 /// What a sum shows as lost is one of its operations that doesn't fit.
