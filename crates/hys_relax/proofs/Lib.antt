@@ -1,0 +1,9 @@
+pub mod Sums
+pub mod Duality
+pub mod Dense
+pub mod Nodes
+pub mod BoundSums
+pub mod Bounds
+pub mod Examples
+pub mod Children
+pub mod Zeros
