@@ -7,7 +7,7 @@ use std::alloc::{AllocError, Global};
 
 // The forms of the words.
 #[tactic(auto, unfolding(crate::specs::Lines::usage_line))]
-pub fn usage() -> &'static str
+pub fn describe_forms() -> &'static str
     ensures { result.now ≡ lines.usage_line }
 {
     "usage: hysdel compile SRC MLD | sim SRC START INPUTS OUT | plan SRC REQ ANS | check MLD REQ ANS\n"
@@ -15,7 +15,7 @@ pub fn usage() -> &'static str
 
 // The name can't be read.
 #[tactic(auto, unfolding(crate::specs::Lines::read_line))]
-pub fn read_failed(alloc: Global, name: &str) -> Result<String, AllocError>
+pub fn describe_unread(alloc: Global, name: &str) -> Result<String, AllocError>
     ensures { IfOk result (λ s. string_bytes s ≡ lines.read_line name.now) }
 {
     format!(in alloc; "read failed: {name}\n")
@@ -50,7 +50,7 @@ fn limit_word(kind: LimitKind) -> &'static str
 
 // The source is refused.
 #[tactic(auto, unfolding(crate::specs::Lines::refused_line, crate::specs::Lines::detail_text))]
-pub fn refused(alloc: Global, fault: SourceFault) -> Result<String, AllocError>
+pub fn describe_refusal(alloc: Global, fault: SourceFault) -> Result<String, AllocError>
     ensures { IfOk result (λ s. string_bytes s ≡ lines.refused_line fault) }
 {
     let number = fault.number;
@@ -71,7 +71,7 @@ pub fn refused(alloc: Global, fault: SourceFault) -> Result<String, AllocError>
 
 // A matrix text is put.
 #[tactic(auto, unfolding(crate::specs::Lines::compiled_line))]
-pub fn compiled(alloc: Global, system: &System) -> Result<String, AllocError>
+pub fn describe_system(alloc: Global, system: &System) -> Result<String, AllocError>
     ensures { IfOk result (λ s. string_bytes s ≡ lines.compiled_line system.now) }
 {
     let columns = system.columns.items().len();
