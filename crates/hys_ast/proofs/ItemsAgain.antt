@@ -10,15 +10,15 @@ use Rattle.hys_ast.specs.declared.level.Level.TheVariants as level
 use Rattle.hys_ast.specs.declared.source.Section.{Section}
 use Rattle.hys_ast.specs.declared.source.Section.TheVariants as section
 use Rattle.hys_ast.specs.Operators.{level_of}
-use Rattle.hys_ast.specs.Grammar.{At, Is, DerivesExpr, DerivesIte, DerivesChoice, has_formulas, DerivesItem}
+use Rattle.hys_ast.specs.Grammar.{At, Is, DerivesExpr, DerivesIte, DerivesChoice, DerivesGuard, has_formulas, DerivesItem}
 use Rattle.hys_ast.specs.Grammar as grammar
-use Rattle.hys_ast.specs.Tree.{Tree, Shape, Plain, Choice, Item}
+use Rattle.hys_ast.specs.Tree.{Tree, Shape, Plain, Wide, Choice, Item}
 use Rattle.hys_ast.specs.Tree as tree
 use Rattle.hys_ast.specs.Bare.{bare, bare_shape, bare_item, nowhere}
-use Rattle.hys_ast.specs.Printed.{word, binary_mark, left_strength, right_strength, strength, grouped, expr_words, operand_words, shape_words, item_words, semicolon}
+use Rattle.hys_ast.specs.Printed.{word, mark, binary_mark, left_strength, right_strength, strength, grouped, expr_words, operand_words, shape_words, item_words, semicolon}
 use Rattle.hys_ast.proofs.Spelled.{Spells, further}
 use Rattle.hys_ast.proofs.Regrouped.{Again, expr_again}
-use Rattle.hys_ast.proofs.ValidParts.{SoundChoice, short, long, SoundItem, formula, choice, must}
+use Rattle.hys_ast.proofs.ValidParts.{SoundChoice, short, long, SoundGuard, narrow, wide, SoundItem, formula, guard, choice, must}
 
 -- the lexemes begin with the choice, places aside, and go on with these words
 record ChoiceAgain (ts : List Lexeme) (more : List Spelling) (shape : Shape) : Type 0 where
@@ -59,6 +59,34 @@ choice_again shape more _ (long {a = a} {b = b} {c = c} v w x) (further {l = i} 
     let r : Expr whens then a = expr_again a then whens z in
     long_again a b c r.found more i whens r.rest k r.derives r.same r.spells
 
+-- the lexemes begin with the right side of an item of AD, places aside, and go on with these words
+record GuardAgain (ts : List Lexeme) (more : List Spelling) (shape : Shape) : Type 0 where
+  rest : List Lexeme
+  found : Shape
+  derives : DerivesGuard ts rest found
+  spells : Spells more rest
+  same : bare_shape found ≡ bare_shape shape
+
+wide_close : (a b x y : Tree) (more : List Spelling) (o : Lexeme) (ts next rest : List Lexeme) → DerivesExpr ts (o ∷ next) x → bare x ≡ bare a → Is (token.Sign sign.OPEN_BRACKET) o →
+    DerivesExpr next rest y → bare y ≡ bare b → Spells (mark sign.CLOSE_BRACKET (codes "]") ∷ more) rest → GuardAgain ts more (Wide a b)
+wide_close a b x y more o ts next _ d e i f g (further {l = c} {ls = rest} j u z) =
+    record { rest = rest; found = Wide x y; derives = grammar.wide o c d i f j; spells = z; same = cc }
+
+wide_again : (a b x : Tree) (more : List Spelling) (ts rest : List Lexeme) → DerivesExpr ts rest x → bare x ≡ bare a →
+    Spells (mark sign.OPEN_BRACKET (codes "[") ∷ expr_words b (mark sign.CLOSE_BRACKET (codes "]") ∷ more)) rest → GuardAgain ts more (Wide a b)
+wide_again a b x more ts _ d e (further {l = o} {ls = next} i u z) =
+    let r : Expr next (mark sign.CLOSE_BRACKET (codes "]") ∷ more) b = expr_again b (mark sign.CLOSE_BRACKET (codes "]") ∷ more) next z in
+    wide_close a b x r.found more o ts next r.rest d e i r.derives r.same r.spells
+
+guard_again : (shape : Shape) (more : List Spelling) (ts : List Lexeme) → SoundGuard shape → Spells (shape_words shape more) ts → GuardAgain ts more shape
+guard_again _ more ts (narrow {e = e} v) s =
+    let r : Expr ts more e = expr_again e more ts s in
+    record { rest = r.rest; found = Plain r.found; derives = grammar.narrow r.derives; spells = r.spells; same = ap Plain r.same }
+guard_again _ more ts (wide {a = a} {b = b} v w) s =
+    let then : List Spelling = mark sign.OPEN_BRACKET (codes "[") ∷ expr_words b (mark sign.CLOSE_BRACKET (codes "]") ∷ more) in
+    let r : Expr ts then a = expr_again a then ts s in
+    wide_again a b r.found more ts r.rest r.derives r.same r.spells
+
 -- the lexemes begin with the item, places aside, and go on with these words
 pub record ItemAgain (ts : List Lexeme) (more : List Spelling) (i : Item) : Type 0 where
   pub rest : List Lexeme
@@ -73,6 +101,16 @@ formula_end s n p e x more l equals next _ g i t j d f (further {l = end} {ls = 
   rest = rest;
   found = record { section = s; name = Some l.text; place = l.place; shape = Plain x };
   derives = grammar.formula l equals end g i j d k;
+  spells = z;
+  same = cc;
+}
+
+guard_end : (n : List ℕ) (p : Place) (shape found : Shape) (more : List Spelling) (l equals : Lexeme) (next rest : List Lexeme) → Is token.Name l → l.text ≡ n → Is (token.Sign sign.EQUALS) equals →
+    DerivesGuard next rest found → bare_shape found ≡ bare_shape shape → Spells (semicolon ∷ more) rest → ItemAgain (l ∷ equals ∷ next) more (record { section = section.Ad; name = Some n; place = p; shape = shape })
+guard_end n p shape found more l equals next _ i t j d f (further {l = end} {ls = rest} k u z) = record {
+  rest = rest;
+  found = record { section = section.Ad; name = Some l.text; place = l.place; shape = found };
+  derives = grammar.guard l equals end i j d k;
   spells = z;
   same = cc;
 }
@@ -127,6 +165,9 @@ pub item_again : (i : Item) (more : List Spelling) (ts : List Lexeme) → SoundI
 item_again i more _ (formula {s = s} {n = n} {p = p} {e = e} g m v) (further {l = l} k t (further {l = equals} {ls = next} j u z)) =
     let r : Expr next (semicolon ∷ more) e = expr_again e (semicolon ∷ more) next z in
     formula_end s n p e r.found more l equals next r.rest g k t j r.derives r.same r.spells
+item_again i more _ (guard {n = n} {p = p} {shape = shape} m c) (further {l = l} k t (further {l = equals} {ls = next} j u z)) =
+    let r : GuardAgain next (semicolon ∷ more) shape = guard_again shape (semicolon ∷ more) next c z in
+    guard_end n p shape r.found more l equals next r.rest k t j r.derives r.same r.spells
 item_again i more _ (choice {n = n} {p = p} {shape = shape} m c) (further {l = l} k t (further {l = equals} {ls = next} j u z)) =
     let r : ChoiceAgain next (semicolon ∷ more) shape = choice_again shape (semicolon ∷ more) next c z in
     choice_end n p shape r.found more l equals next r.rest k t j (grammar.bare r.derives) r.same r.spells

@@ -4,7 +4,7 @@ use Rattle.hys_lex.specs.Spaced.{Spelling}
 use Rattle.hys_ast.specs.declared.source.Section.{Section}
 use Rattle.hys_ast.specs.declared.source.Section.TheVariants as section
 use Rattle.hys_ast.specs.Operators.{level_of}
-use Rattle.hys_ast.specs.Tree.{Tree, Decl, Shape, Plain, Choice, Item, Source}
+use Rattle.hys_ast.specs.Tree.{Tree, Decl, Shape, Plain, Wide, Choice, Item, Source}
 use Rattle.hys_ast.specs.Tree as tree
 use Rattle.hys_ast.specs.Bare.{bare, maybe_bare, bare_decl, bare_shape, bare_item, bare_source}
 use Rattle.hys_ast.specs.Printed.{mark, word, unary_mark, binary_mark, unary_strength, left_strength, right_strength, strength, grouped, expr_words, operand_words, name, kind_word, bounds_words, value_words, decl_words, else_words, shape_words, target_words, item_words, semicolon, closing, begin_words, is_open, blocks_words, decls_words, items_words, declared, head_words, middle_words, source_words}
@@ -54,6 +54,9 @@ same_else (Some e) rest = ap (λ ws. word keyword.ELSE (codes "ELSE") ∷ ws) (s
 
 same_shape : (shape : Shape) (rest : List Spelling) → shape_words (bare_shape shape) rest ≡ shape_words shape rest
 same_shape (Plain e) rest = same_expr e rest
+same_shape (Wide a b) rest =
+    same_expr a (mark sign.OPEN_BRACKET (codes "[") ∷ expr_words (bare b) (mark sign.CLOSE_BRACKET (codes "]") ∷ rest))
+    ∙ ap (λ ws. expr_words a (mark sign.OPEN_BRACKET (codes "[") ∷ ws)) (same_expr b (mark sign.CLOSE_BRACKET (codes "]") ∷ rest))
 same_shape (Choice a b c) rest =
     ap (λ ws. word keyword.IF (codes "IF") ∷ ws) (same_expr a (word keyword.THEN (codes "THEN") ∷ expr_words (bare b) (else_words (maybe_bare c) rest)))
     ∙ ap (λ ws. word keyword.IF (codes "IF") ∷ expr_words a (word keyword.THEN (codes "THEN") ∷ ws)) (same_expr b (else_words (maybe_bare c) rest) ∙ ap (expr_words b) (same_else c rest))

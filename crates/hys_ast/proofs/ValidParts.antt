@@ -9,9 +9,9 @@ use Rattle.hys_ast.specs.declared.level.Level.TheVariants as level
 use Rattle.hys_ast.specs.declared.source.Section.{Section}
 use Rattle.hys_ast.specs.declared.source.Section.TheVariants as section
 use Rattle.hys_ast.specs.declared.source.Kind.{Kind}
-use Rattle.hys_ast.specs.Grammar.{At, Is, Derives, DerivesExpr, has_bounds, DerivesDecl, DerivesIte, DerivesChoice, has_formulas, DerivesItem, kind_of}
+use Rattle.hys_ast.specs.Grammar.{At, Is, Derives, DerivesExpr, has_bounds, DerivesDecl, DerivesIte, DerivesChoice, DerivesGuard, has_formulas, DerivesItem, kind_of}
 use Rattle.hys_ast.specs.Grammar as grammar
-use Rattle.hys_ast.specs.Tree.{Tree, Decl, Shape, Plain, Choice, Item}
+use Rattle.hys_ast.specs.Tree.{Tree, Decl, Shape, Plain, Wide, Choice, Item}
 use Rattle.hys_ast.specs.Bare.{bare, bare_decl, nowhere}
 use Rattle.hys_ast.specs.Printed.{name, mark, expr_words, bounds_words, value_words, decl_words, shape_words, item_words}
 use Rattle.hys_ast.proofs.Spelled.{Lawful, lawful_name, Spelled, Spells, further}
@@ -102,8 +102,13 @@ pub data SoundChoice : Shape → Type 0 where
   short : {a b : Tree} → Valid a → Valid b → SoundChoice (Choice a b None)
   long : {a b c : Tree} → Valid a → Valid b → Valid c → SoundChoice (Choice a b (Some c))
 
+pub data SoundGuard : Shape → Type 0 where
+  narrow : {e : Tree} → Valid e → SoundGuard (Plain e)
+  wide : {a b : Tree} → Valid a → Valid b → SoundGuard (Wide a b)
+
 pub data SoundItem : Item → Type 0 where
   formula : {s : Section} {n : List ℕ} {p : Place} {e : Tree} → has_formulas s ≡ true → IsSpelled (name n) → Valid e → SoundItem (record { section = s; name = Some n; place = p; shape = Plain e })
+  guard : {n : List ℕ} {p : Place} {shape : Shape} → IsSpelled (name n) → SoundGuard shape → SoundItem (record { section = section.Ad; name = Some n; place = p; shape = shape })
   choice : {n : List ℕ} {p : Place} {shape : Shape} → IsSpelled (name n) → SoundChoice shape → SoundItem (record { section = section.Da; name = Some n; place = p; shape = shape })
   must : {p : Place} {e : Tree} → Valid e → SoundItem (record { section = section.Must; name = None; place = p; shape = Plain e })
 
@@ -122,6 +127,13 @@ choice_read : (ts rest : List Lexeme) (shape : Shape) → DerivesChoice ts rest 
 choice_read ts rest shape (grammar.bare d) h = ite_read ts rest shape d h
 choice_read _ rest shape (grammar.braced {next = next} o c i d j) h = let p : SoundChoice shape × Lawful (c ∷ rest) = ite_read next (c ∷ rest) shape d h.1 in (p.0, p.1.1)
 
+guard_read : (ts rest : List Lexeme) (shape : Shape) → DerivesGuard ts rest shape → Lawful ts → SoundGuard shape × Lawful rest
+guard_read ts rest _ (grammar.narrow {e = e} d) h = let p : Valid e × Lawful rest = valid_expr ts rest e d h in (narrow p.0, p.1)
+guard_read ts rest _ (grammar.wide {next = next} {a = a} {b = b} o c d i e j) h =
+    let p : Valid a × Lawful (o ∷ next) = valid_expr ts (o ∷ next) a d h in
+    let q : Valid b × Lawful (c ∷ rest) = valid_expr next (c ∷ rest) b e p.1.1 in
+    (wide p.0 q.0, q.1.1)
+
 pub record ItemRead (s : Section) (i : Item) (rest : List Lexeme) : Type 0 where
   pub sound : SoundItem i
   pub section_is : i.section ≡ s
@@ -131,6 +143,9 @@ pub item_read : (s : Section) (ts rest : List Lexeme) (i : Item) → DerivesItem
 item_read s _ rest _ (grammar.formula {next = next} {e = e} l equals end g i j d k) h =
     let p : Valid e × Lawful (end ∷ rest) = valid_expr next (end ∷ rest) e d h.1.1 in
     record { sound = formula g (lawful_name l i h.0) p.0; section_is = refl; lawful = p.1.1 }
+item_read _ _ rest _ (grammar.guard {next = next} {shape = shape} l equals end i j d k) h =
+    let p : SoundGuard shape × Lawful (end ∷ rest) = guard_read next (end ∷ rest) shape d h.1.1 in
+    record { sound = guard (lawful_name l i h.0) p.0; section_is = refl; lawful = p.1.1 }
 item_read _ _ rest _ (grammar.choice {next = next} {shape = shape} l equals end i j d k) h =
     let p : SoundChoice shape × Lawful (end ∷ rest) = choice_read next (end ∷ rest) shape d h.1.1 in
     record { sound = choice (lawful_name l i h.0) p.0; section_is = refl; lawful = p.1.1 }
@@ -142,7 +157,12 @@ choice_spelled : (shape : Shape) (more : List Spelling) → SoundChoice shape �
 choice_spelled shape more (short {a = a} {b = b} v w) h = (when-spelled, expr_spelled a _ v (hit-spelled, expr_spelled b _ w h))
 choice_spelled shape more (long {a = a} {b = b} {c = c} v w x) h = (when-spelled, expr_spelled a _ v (hit-spelled, expr_spelled b _ w (other-spelled, expr_spelled c _ x h)))
 
+guard_spelled : (shape : Shape) (more : List Spelling) → SoundGuard shape → Spelled more → Spelled (shape_words shape more)
+guard_spelled shape more (narrow {e = e} v) h = expr_spelled e _ v h
+guard_spelled shape more (wide {a = a} {b = b} v w) h = expr_spelled a _ v (open_bracket-spelled, expr_spelled b _ w (close_bracket-spelled, h))
+
 pub item_spelled : (i : Item) (more : List Spelling) → SoundItem i → Spelled more → Spelled (item_words i more)
 item_spelled i more (formula {e = e} g n v) h = (n, (equals-spelled, expr_spelled e _ v (semicolon-spelled, h)))
+item_spelled i more (guard {shape = shape} n c) h = (n, (equals-spelled, guard_spelled shape _ c (semicolon-spelled, h)))
 item_spelled i more (choice {shape = shape} n c) h = (n, (equals-spelled, choice_spelled shape _ c (semicolon-spelled, h)))
 item_spelled i more (must {e = e} v) h = expr_spelled e _ v (semicolon-spelled, h)

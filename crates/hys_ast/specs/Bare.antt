@@ -3,7 +3,7 @@ use Rattle.std.specs.Prelude.{◌≡◌, ℕ, List, Option, Some, None, map}
 use Rattle.hys_lex.specs.declared.token.Token.{Token}
 use Rattle.hys_lex.specs.Cut.{Cut}
 use Rattle.hys_ast.specs.declared.place.Place.{Place}
-use Rattle.hys_ast.specs.Tree.{Tree, Number, Name, Truth, Cast, Unary, Binary, Decl, Shape, Plain, Choice, Item, Source}
+use Rattle.hys_ast.specs.Tree.{Tree, Number, Name, Truth, Cast, Unary, Binary, Decl, Shape, Plain, Wide, Choice, Item, Source}
 use Rattle.hys_ast.specs.Grammar.{IsTreeOf}
 
 -- the place that stands for every place
@@ -27,6 +27,7 @@ bare_decl d = record { section = d.section; kind = d.kind; name = d.name; place 
 
 abbrev pub bare_shape : Shape → Shape
 bare_shape (Plain e) = Plain (bare e)
+bare_shape (Wide a b) = Wide (bare a) (bare b)
 bare_shape (Choice a b c) = Choice (bare a) (bare b) (maybe_bare c)
 
 abbrev pub bare_item : Item → Item

@@ -181,9 +181,14 @@ pub data DerivesChoice : List Lexeme → List Lexeme → Shape → Type 0 where
   braced : {next rest : List Lexeme} {shape : Shape} (opening closing : Lexeme) → Is (token.Sign sign.OPEN_BRACE) opening → DerivesIte next (closing ∷ rest) shape →
       Is (token.Sign sign.CLOSE_BRACE) closing → DerivesChoice (opening ∷ next) rest shape
 
+-- The right side of an item of AD: an expression, and maybe its tolerance in brackets.
+pub data DerivesGuard : List Lexeme → List Lexeme → Shape → Type 0 where
+  narrow : {ts rest : List Lexeme} {e : Tree} → DerivesExpr ts rest e → DerivesGuard ts rest (tree.Plain e)
+  wide : {ts next rest : List Lexeme} {a b : Tree} (opening closing : Lexeme) → DerivesExpr ts (opening ∷ next) a → Is (token.Sign sign.OPEN_BRACKET) opening →
+      DerivesExpr next (closing ∷ rest) b → Is (token.Sign sign.CLOSE_BRACKET) closing → DerivesGuard ts rest (tree.Wide a b)
+
 -- the sections whose items are a name, `=` and an expression
 abbrev pub has_formulas : Section → Bool
-has_formulas section.Ad = true
 has_formulas section.Logic = true
 has_formulas section.Linear = true
 has_formulas section.Automata = true
@@ -195,6 +200,9 @@ pub data DerivesItem : Section → List Lexeme → List Lexeme → Item → Type
   formula : {s : Section} {next rest : List Lexeme} {e : Tree} (l equals end : Lexeme) → has_formulas s ≡ true → Is token.Name l → Is (token.Sign sign.EQUALS) equals →
       DerivesExpr next (end ∷ rest) e → Is (token.Sign sign.SEMICOLON) end →
       DerivesItem s (l ∷ equals ∷ next) rest (record { section = s; name = Some l.text; place = l.place; shape = tree.Plain e })
+  guard : {next rest : List Lexeme} {shape : Shape} (l equals end : Lexeme) → Is token.Name l → Is (token.Sign sign.EQUALS) equals →
+      DerivesGuard next (end ∷ rest) shape → Is (token.Sign sign.SEMICOLON) end →
+      DerivesItem section.Ad (l ∷ equals ∷ next) rest (record { section = section.Ad; name = Some l.text; place = l.place; shape = shape })
   choice : {next rest : List Lexeme} {shape : Shape} (l equals end : Lexeme) → Is token.Name l → Is (token.Sign sign.EQUALS) equals →
       DerivesChoice next (end ∷ rest) shape → Is (token.Sign sign.SEMICOLON) end →
       DerivesItem section.Da (l ∷ equals ∷ next) rest (record { section = section.Da; name = Some l.text; place = l.place; shape = shape })

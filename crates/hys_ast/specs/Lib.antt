@@ -7,10 +7,3 @@ pub mod Nodes
 pub mod Bare
 pub mod Printed
 pub mod Spines
-pub mod Values
-pub mod Names
-pub mod Forms
-pub mod Typed
-pub mod Circular
-pub mod Steps
-pub mod Accepted

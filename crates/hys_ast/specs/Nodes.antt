@@ -1,6 +1,6 @@
 -- The expressions of a source, and how many nodes they have.
 use Rattle.std.specs.Prelude.{◌≡◌, ℕ, suc, ◌+◌, ◌-◌, ◌^◌, min, max, List, [], ◌∷◌, ◌++◌, Option, Some, None}
-use Rattle.hys_ast.specs.Tree.{Tree, Number, Name, Truth, Cast, Unary, Binary, Decl, Shape, Plain, Choice, Item, Source}
+use Rattle.hys_ast.specs.Tree.{Tree, Number, Name, Truth, Cast, Unary, Binary, Decl, Shape, Plain, Wide, Choice, Item, Source}
 use Rattle.hys_ast.specs.declared.count.NodeCount.{NodeCount}
 
 abbrev pub nodes : Tree → ℕ
@@ -20,6 +20,7 @@ decl_expressions d = if_any d.low ++ if_any d.high ++ if_any d.value
 
 abbrev pub shape_expressions : Shape → List Tree
 shape_expressions (Plain e) = e ∷ []
+shape_expressions (Wide a b) = a ∷ b ∷ []
 shape_expressions (Choice a b c) = (a ∷ b ∷ []) ++ if_any c
 
 abbrev pub decls_expressions : List Decl → List Tree
@@ -30,7 +31,8 @@ abbrev pub items_expressions : List Item → List Tree
 items_expressions [] = []
 items_expressions (i ∷ is) = shape_expressions i.shape ++ items_expressions is
 
--- the expressions of a source, in the order of the text; a condition, a THEN and an ELSE are three
+-- the expressions of a source, in the order of the text; a condition, a THEN and an ELSE are
+-- three, a comparison and its tolerance two
 abbrev pub expressions : Source → List Tree
 expressions s = decls_expressions s.decls ++ items_expressions s.items
 

@@ -19,7 +19,7 @@ use Rattle.hys_ast.specs.Operators.{level_of, groups}
 use Rattle.hys_ast.specs.Grammar.{Symbol, At, Negation, Signed, Atom, Is, Derives, number_of}
 use Rattle.hys_ast.specs.Bare.{bare}
 use Rattle.hys_ast.specs.declared.lexeme.Lexeme.{Lexeme}
-use Rattle.hys_ast.specs.Tree.{Tree, Number, Name, Truth, Cast, Unary, Binary, Decl, Shape, Plain, Choice, Item, Source}
+use Rattle.hys_ast.specs.Tree.{Tree, Number, Name, Truth, Cast, Unary, Binary, Decl, Shape, Plain, Wide, Choice, Item, Source}
 
 -- what stands behind the text before is these words, whatever follows them
 abbrev pub Writes : List ℕ → List ℕ → (List Spelling → List Spelling) → Type 0
@@ -175,6 +175,7 @@ else_words (Some e) rest = word keyword.ELSE (codes "ELSE") ∷ expr_words e res
 
 abbrev pub shape_words : Shape → List Spelling → List Spelling
 shape_words (Plain e) rest = expr_words e rest
+shape_words (Wide a b) rest = expr_words a (mark sign.OPEN_BRACKET (codes "[") ∷ expr_words b (mark sign.CLOSE_BRACKET (codes "]") ∷ rest))
 shape_words (Choice a b c) rest = word keyword.IF (codes "IF") ∷ expr_words a (word keyword.THEN (codes "THEN") ∷ expr_words b (else_words c rest))
 
 abbrev pub target_words : Option (List ℕ) → List Spelling → List Spelling

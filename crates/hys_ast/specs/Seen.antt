@@ -5,7 +5,7 @@ use Rattle.hys_ast.specs.declared.tree.Expr.{Expr}
 use Rattle.hys_ast.specs.declared.tree.Expr.TheVariants.{Number, Name, Truth, Cast, Unary', Binary'}
 use Rattle.hys_ast.specs.declared.source.Decl.{Decl}
 use Rattle.hys_ast.specs.declared.source.Shape.{Shape}
-use Rattle.hys_ast.specs.declared.source.Shape.TheVariants.{Plain, Choice}
+use Rattle.hys_ast.specs.declared.source.Shape.TheVariants.{Plain, Wide, Choice}
 use Rattle.hys_ast.specs.declared.source.Item.{Item}
 use Rattle.hys_ast.specs.declared.source.Source.{Source}
 
@@ -34,6 +34,7 @@ decl_of d = record {
 
 abbrev pub shape_of : Shape → tree.Shape
 shape_of (Plain e) = tree.Plain (tree_of e)
+shape_of (Wide a b) = tree.Wide (tree_of a) (tree_of b)
 shape_of (Choice a b c) = tree.Choice (tree_of a) (tree_of b) (maybe_tree_of c)
 
 abbrev pub item_of : Item → tree.Item

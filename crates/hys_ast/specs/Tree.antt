@@ -25,6 +25,7 @@ pub record Decl : Type 0 where
 
 pub data Shape : Type 0 where
   Plain : Tree → Shape
+  Wide : Tree → Tree → Shape
   Choice : Tree → Tree → Option Tree → Shape
 
 pub record Item : Type 0 where

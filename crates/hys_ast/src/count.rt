@@ -57,6 +57,7 @@ fn with_shape(count: NodeCount, shape: &Shape) -> NodeCount
 {
     match shape {
         Shape::Plain(whole) => with(count, whole),
+        Shape::Wide(comparison, tolerance) => with(with(count, comparison), tolerance),
         Shape::Choice(when, hit, other) => {
             let count = with(count, when);
             let count = with(count, hit);
@@ -86,7 +87,7 @@ fn with_items(count: NodeCount, items: &[Item]) -> NodeCount
 }
 
 /// The nodes of a source's expressions: bounds, values, and the right sides of items, where a
-/// condition, a THEN and an ELSE are three.
+/// condition, a THEN and an ELSE are three, and a comparison and its tolerance two.
 pub fn count_nodes(source: &Source) -> NodeCount
     ensures { IsCountOf (expressions (source_of source.now)) result }
 {

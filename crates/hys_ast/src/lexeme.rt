@@ -3,7 +3,7 @@ ghost use Rattle.hys_lex.specs.Cut.{Cut};
 ghost use Rattle.hys_ast.specs.Places.{text_at, lexemes_of};
 
 use crate::place::{Place, advance, start};
-use hys_frac::Text;
+use hys_base::Text;
 use hys_lex::{Token, TokenKind, laws};
 use std::alloc::{AllocError, Global};
 

@@ -9,7 +9,7 @@ ghost use Rattle.hys_ast.specs.Spines.{behind_left, behind, is_single, Within};
 use crate::level::Level;
 use crate::tree::{BinaryOp, Expr, UnaryOp};
 use crate::write::{put, put_text};
-use hys_frac::Text;
+use hys_base::Text;
 use std::alloc::{AllocError, Global};
 
 // Strengths: how tightly an expression holds together.

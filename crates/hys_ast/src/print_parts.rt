@@ -1,12 +1,13 @@
 ghost use Rattle.std.specs.Prelude.{◌≡◌, Some, IfOk};
 ghost use Rattle.hys_ast.specs.Seen.{tree_of, maybe_tree_of, decl_of, shape_of, item_of};
+ghost use Rattle.hys_ast.specs.Tree.{Wide};
 ghost use Rattle.hys_ast.specs.Printed.{Writes, kind_word, bounds_words, value_words, decl_words, else_words, shape_words, target_words, item_words};
 
 use crate::print_expr::expression;
 use crate::source::{Decl, Item, Kind, Shape};
 use crate::tree::Expr;
 use crate::write::{put, put_text};
-use hys_frac::Text;
+use hys_base::Text;
 use std::alloc::{AllocError, Global};
 
 fn kind(kind: Kind) -> &'static [u8]
@@ -77,11 +78,26 @@ fn other(alloc: Global, out: &mut Vec<u8>, other: &Option<Expr>) -> Result<(), A
     }
 }
 
+fn wide(
+    alloc: Global,
+    out: &mut Vec<u8>,
+    comparison: &Expr,
+    tolerance: &Expr,
+) -> Result<(), AllocError>
+    ensures { IfOk result (λ _. Writes out.old.items out.new.items (shape_words (Wide (tree_of comparison.now) (tree_of tolerance.now)))) }
+{
+    expression(alloc, out, comparison)?;
+    put(out, b"[")?;
+    expression(alloc, out, tolerance)?;
+    put(out, b"]")
+}
+
 fn shape(alloc: Global, out: &mut Vec<u8>, shape: &Shape) -> Result<(), AllocError>
     ensures { IfOk result (λ _. Writes out.old.items out.new.items (shape_words (shape_of shape.now))) }
 {
     match shape {
         Shape::Plain(right) => expression(alloc, out, right),
+        Shape::Wide(comparison, tolerance) => wide(alloc, out, comparison, tolerance),
         Shape::Choice(when, hit, miss) => {
             put(out, b"IF")?;
             expression(alloc, out, when)?;

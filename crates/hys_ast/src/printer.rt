@@ -9,7 +9,7 @@ ghost use Rattle.hys_ast.specs.Printed.{Writes, section_word, end_words, same_se
 use crate::print_parts::{declaration, item};
 use crate::source::{Decl, Item, Section, Source};
 use crate::write::{put, put_text};
-use hys_frac::Text;
+use hys_base::Text;
 use std::alloc::{AllocError, Global};
 
 fn section_word(section: Section) -> &'static [u8]

@@ -1,6 +1,6 @@
 use crate::place::Place;
 use crate::tree::Expr;
-use hys_frac::{List, Text};
+use hys_base::{List, Text};
 
 /// The section that a declaration or an item stands in. `OutputItem` is the OUTPUT of the
 /// IMPLEMENTATION.
@@ -43,6 +43,8 @@ pub struct Decl {
 #[derive(Debug, Drop)]
 pub enum Shape {
     Plain(Expr),
+    /// A comparison in AD and its own tolerance.
+    Wide(Expr, Expr),
     /// The condition, the THEN and the ELSE of a choice.
     Choice(Expr, Expr, Option<Expr>),
 }

@@ -1,5 +1,5 @@
 use crate::place::Place;
-use hys_frac::Text;
+use hys_base::Text;
 
 #[derive(Clone, Copy, Debug, PartialEq, Eq)]
 pub enum UnaryOp {

@@ -3,7 +3,7 @@
 ghost use Rattle.std.specs.Prelude.{◌≡◌, List, ◌∷◌, ◌++◌, IfOk};
 ghost use Rattle.hys_lex.specs.Spaced.{Spelling, spaced};
 
-use hys_frac::Text;
+use hys_base::Text;
 use std::alloc::AllocError;
 
 /// Appends a token.

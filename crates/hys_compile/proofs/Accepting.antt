@@ -10,20 +10,24 @@ use Rattle.hys_lex.specs.declared.token.Token.{Token}
 use Rattle.hys_ast.specs.declared.tree.UnaryOp.TheVariants as unary
 use Rattle.hys_ast.specs.declared.tree.BinaryOp.TheVariants as binary
 use Rattle.hys_ast.specs.declared.source.Section.{Section}
+use Rattle.hys_ast.specs.declared.source.Section.TheVariants as section
 use Rattle.hys_ast.specs.declared.source.Kind.{Kind}
 use Rattle.hys_ast.specs.Tree.{Tree, Decl, Shape, Item, Source}
 use Rattle.hys_ast.specs.Tree as tree
 use Rattle.hys_ast.specs.Nodes.{nodes, total, expressions}
-use Rattle.hys_ast.specs.Values.{Assignment}
-use Rattle.hys_ast.specs.Names.{Name, names, name_of, look, parameters, is_auxiliary, is_output, is_parameter}
-use Rattle.hys_ast.specs.Forms.{form, IsConstant}
-use Rattle.hys_ast.specs.Typed.{IsReal, IsOfKind, IsMaybe, IsPlain, ValuesTyped, BoxTyped, ItemTyped, RightTyped, differ, is_real, is_left, any_kind, may_stand, left, has_value}
-use Rattle.hys_ast.specs.Circular.{Circular, IsAuxiliary}
-use Rattle.hys_ast.specs.Accepted.{Accepted}
+use Rattle.hys_meaning.specs.Values.{Assignment}
+use Rattle.hys_meaning.specs.Names.{Name, names, name_of, look, parameters, is_auxiliary, is_output, is_parameter}
+use Rattle.hys_meaning.specs.Forms.{form, IsConstant}
+use Rattle.hys_meaning.specs.Bodies.{body, body_in}
+use Rattle.hys_meaning.specs.Typed.{IsReal, IsOfKind, IsMaybe, ValuesTyped, BoxTyped, ItemTyped, RightTyped, differ, is_real, is_left, any_kind, may_stand, left, has_value}
+use Rattle.hys_meaning.specs.Circular.{Circular, IsAuxiliary}
+use Rattle.hys_meaning.specs.Accepted.{Accepted, KeepsRules}
+use Rattle.hys_meaning.proofs.Guardless.{same}
 use Rattle.hys_plain.specs.Plain as plain
 use Rattle.hys_plain.specs.Plain.{is_sum, is_part, is_literal, is_signed_literal, is_name, is_end, is_right_side, is_plain_shape, is_plain_decl, is_plain_item, names_in, lone_literals, declared_texts}
 use Rattle.hys_compile.proofs.Declared.{IsPlainName, IsPlainDecl, plain_decl, plain_names, texts_are, other}
 use Rattle.hys_compile.proofs.Items.{each, each_both, section_of}
+use Rattle.hys_compile.proofs.Weighing.{plain_guards}
 
 -- ---- names that are looked up
 stands : (n : Name) → IsPlainName n → IsTrue (may_stand is_real (Some n))
@@ -112,18 +116,20 @@ sum_real ns (tree.Binary binary.Sub a b p) h k =
 sum_real ns (tree.Binary binary.Mul a b p) h k = let t = and_parts (is_signed_literal a) (is_name b) h in product_real ns a b p t.0 t.1 k
 sum_real ns (tree.Binary _ a b p) h k = absurd (true≢false (sym h))
 
-shape_real : (ns : List Name) (ds : List (List ℕ)) (r : Shape) → ds ≡ map (λ n. n.text) ns → AllByRecursion IsPlainName ns → IsTrue (is_plain_shape ds r) → IsPlain (IsReal ns) r
-shape_real ns ds (tree.Plain e) d h p =
+shape_typed : (ns : List Name) (ds : List (List ℕ)) (n : Option Name) (r : Shape) → ds ≡ map (λ n. n.text) ns → AllByRecursion IsPlainName ns → IsTrue (is_plain_shape ds r) →
+    RightTyped ns n (body_in section.Continuous r)
+shape_typed ns ds n (tree.Plain e) d h p =
     let t = and_parts _ (list_all (λ m. list_any (bytes_eq m) ds) (names_in e)) p in
     let u = and_parts _ (nat_le (lone_literals e) 1) t.0 in
     let z = and_parts (is_sum e) (differ (names_in e)) u.0 in
     sum_real ns e z.0 (all_known ns (names_in e) h (subst (λ (xs : List (List ℕ)). IsTrue (list_all (λ m. list_any (bytes_eq m) xs) (names_in e))) d t.1))
-shape_real ns ds (tree.Choice a b c) d h p = absurd (true≢false (sym p))
+shape_typed ns ds n (tree.Wide a b) d h p = absurd (true≢false (sym p))
+shape_typed ns ds n (tree.Choice a b c) d h p = absurd (true≢false (sym p))
 
-item_typed : (ns : List Name) (ds : List (List ℕ)) → ds ≡ map (λ n. n.text) ns → AllByRecursion IsPlainName ns → (i : Item) → IsTrue (is_plain_item ds i) → RightTyped i.section ns (left ns i.name) i.shape
+item_typed : (ns : List Name) (ds : List (List ℕ)) → ds ≡ map (λ n. n.text) ns → AllByRecursion IsPlainName ns → (i : Item) → IsTrue (is_plain_item ds i) → RightTyped ns (left ns i.name) (body i)
 item_typed ns ds d h i p =
     let shape = (and_parts _ (is_plain_shape ds i.shape) p).1 in
-    subst (λ (t : Section). RightTyped t ns (left ns i.name) i.shape) (sym (section_of ds i p)) (shape_real ns ds i.shape d h shape)
+    subst (λ (t : Section). RightTyped ns (left ns i.name) (body_in t i.shape)) (sym (section_of ds i p)) (shape_typed ns ds (left ns i.name) i.shape d h shape)
 
 -- ---- declarations
 no_value : (k : Kind) (ns : List Name) (e : Option Tree) → is_none e ≡ true → IsMaybe (IsOfKind k ns) e
@@ -148,8 +154,8 @@ not_circular : (s : Source) → AllByRecursion IsPlainName (names s) → (ns : L
 not_circular s h [] c = c
 not_circular s h (n ∷ ns) c = no_auxiliary (names s) n h c.0.0
 
-pub plain_accepted : (tokens : List Token) (s : Source) → plain.IsPlain tokens s → total (expressions s) ≤ 4000 → AllByRecursion (λ e. nodes e ≤ 1000) (expressions s) → Accepted s
-plain_accepted tokens s h few small = record {
+plain_rules : {tokens : List Token} (s : Source) → plain.IsPlain tokens s → KeepsRules s
+plain_rules s h = record {
   declared = h.declared;
   values = each _ _ no_parameter s.decls h.decls;
   typed = record {
@@ -160,5 +166,10 @@ plain_accepted tokens s h few small = record {
   bounded = h.bounded;
   defined = h.defined;
   orders = not_circular s (plain_names s h);
+}
+
+pub plain_accepted : (tokens : List Token) (s : Source) → plain.IsPlain tokens s → total (expressions s) ≤ 4000 → AllByRecursion (λ e. nodes e ≤ 1000) (expressions s) → Accepted s
+plain_accepted tokens s h few small = record {
+  rules = subst KeepsRules (sym (same s (plain_guards s h))) (plain_rules s h);
   limits = record { names = h.few; expression = small; nodes = few };
 }

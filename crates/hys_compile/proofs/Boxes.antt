@@ -8,9 +8,10 @@ use Rattle.hys_lin.specs.Sums.{at, Within}
 use Rattle.hys_ast.specs.declared.source.Section.{Section}
 use Rattle.hys_ast.specs.declared.source.Kind.{Kind}
 use Rattle.hys_ast.specs.declared.source.Kind.TheVariants as kind
-use Rattle.hys_ast.specs.Values.{Assignment, IsBit}
-use Rattle.hys_ast.specs.Names.{Name, texts, is_state, is_input}
-use Rattle.hys_ast.specs.Steps.{InBox, is_given}
+use Rattle.hys_lin.specs.Bits.{IsBit}
+use Rattle.hys_meaning.specs.Values.{Assignment}
+use Rattle.hys_meaning.specs.Names.{Name, texts, is_state, is_input}
+use Rattle.hys_meaning.specs.Steps.{InBox, is_given}
 use Rattle.hys_sys.specs.declared.system.ColumnRole.{ColumnRole}
 use Rattle.hys_sys.specs.declared.system.Column.{Column}
 use Rattle.hys_sys.specs.Exact.{Boxed, AreIn}

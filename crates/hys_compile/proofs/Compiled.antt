@@ -1,5 +1,5 @@
 -- The system of the parts of a plain source is what a compiled system is.
-use Rattle.std.proofs.Common.{◌≡◌, ℕ, ◌≤◌, List, [], ◌∷◌, sym, subst, arith}
+use Rattle.std.proofs.Common.{◌≡◌, ℕ, ◌≤◌, List, [], ◌∷◌, ◌∙◌, sym, ap, subst, arith}
 use Rattle.std.specs.List.{AllByRecursion}
 use Rattle.hys_lex.specs.declared.token.Token.{Token}
 use Rattle.hys_ast.specs.Tree.{Tree, Source}
@@ -13,7 +13,7 @@ use Rattle.hys_compile.specs.Automaton.{IsExactFor}
 use Rattle.hys_compile.specs.System.{system_of}
 use Rattle.hys_compile.specs.Text.{IsMeasured, IsCompiled, IsPlainText, IsAcceptedText}
 use Rattle.hys_compile.proofs.Lawful.{plain_system}
-use Rattle.hys_compile.proofs.Exactly.{plain_exact}
+use Rattle.hys_compile.proofs.Exactly.{plain_exact, plain_weighs}
 use Rattle.hys_compile.proofs.Accepting.{plain_accepted}
 
 -- the largest is at most n where each is
@@ -30,6 +30,7 @@ plain_compiled text tokens tree p system e m plain parts = record {
   plain = plain;
   accepted = plain_accepted tokens tree plain m.nodes (each_within 1000 (expressions tree) m.expression);
   lawful = subst IsSystem (sym e) (plain_system tokens tree p plain parts);
+  weight = ap (λ (z : System). z.weight) e ∙ plain_weighs tokens tree p plain parts;
   exact = λ tolerance. subst (IsExactFor tolerance tree) (sym e) (plain_exact tokens tree p plain parts tolerance);
 }
 

@@ -3,16 +3,16 @@ use Rattle.std.proofs.Common.{◌≡◌, ℕ, List, [], ◌∷◌, ◌++◌, map
 use Rattle.std.specs.List.{AllByRecursion}
 use Rattle.std.proofs.lemmas.Bool.{and_parts, and_from, cond-false}
 use Rattle.hys_number.specs.Ops.{◌≤ₙ◌, whole}
-use Rattle.hys_frac.specs.Differ.{Apart, Differ}
+use Rattle.hys_base.specs.Differ.{Apart, Differ}
 use Rattle.hys_lex.specs.declared.token.Token.{Token}
 use Rattle.hys_ast.specs.declared.source.Section.{Section}
 use Rattle.hys_ast.specs.declared.source.Section.TheVariants as section
 use Rattle.hys_ast.specs.declared.source.Kind.{Kind}
 use Rattle.hys_ast.specs.declared.source.Kind.TheVariants as kind
 use Rattle.hys_ast.specs.Tree.{Tree, Decl, Source}
-use Rattle.hys_ast.specs.Values.{Assignment}
-use Rattle.hys_ast.specs.Names.{Name, name_of, names, parameters, texts, end_of, is_state, is_input}
-use Rattle.hys_ast.specs.Typed.{is_real, has_box, IsBox}
+use Rattle.hys_meaning.specs.Values.{Assignment}
+use Rattle.hys_meaning.specs.Names.{Name, name_of, names, parameters, texts, end_of, is_state, is_input}
+use Rattle.hys_meaning.specs.Typed.{is_real, has_box, IsBox}
 use Rattle.hys_plain.specs.Plain.{IsPlain, is_plain_decl, is_end}
 use Rattle.hys_plain.specs.Meant.{columns}
 use Rattle.hys_compile.proofs.Texts.{apart_both, differ_inserted}

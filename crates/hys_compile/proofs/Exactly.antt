@@ -9,9 +9,9 @@ use Rattle.hys_lin.specs.declared.form.Affine.{Affine}
 use Rattle.hys_lex.specs.declared.token.Token.{Token}
 use Rattle.hys_ast.specs.declared.source.Kind.{Kind}
 use Rattle.hys_ast.specs.Tree.{Source}
-use Rattle.hys_ast.specs.Values.{Assignment}
-use Rattle.hys_ast.specs.Names.{Name, names, texts, is_state, is_input, is_output, is_parameter, is_auxiliary}
-use Rattle.hys_ast.specs.Steps.{Step, Legal, CaseOf, Demand, InGap}
+use Rattle.hys_meaning.specs.Values.{Assignment}
+use Rattle.hys_meaning.specs.Names.{Name, names, texts, is_state, is_input, is_output, is_parameter, is_auxiliary}
+use Rattle.hys_meaning.specs.Steps.{Step, Legal, CaseOf, Demand, InGap}
 use Rattle.hys_plain.specs.Plain.{IsPlain, declared_texts}
 use Rattle.hys_plain.specs.Meant.{PartsOf, columns, AreNext}
 use Rattle.hys_plain.specs.declared.parts.PlainParts.{PlainParts}
@@ -22,8 +22,13 @@ use Rattle.hys_sys.specs.declared.system.Column.{Column}
 use Rattle.hys_sys.specs.Solution.{Solution, IsOfKind}
 use Rattle.hys_sys.specs.Exact as exact
 use Rattle.hys_sys.specs.Exact.{Variable, AreIn, From, Arranged, ExactAt, Exact, values, bools, reals}
-use Rattle.hys_compile.specs.Automaton.{automaton_of, named, boxed_of, variable_of, kind_of, IsExactFor}
+use Rattle.hys_compile.specs.Automaton.{automaton_of, named, boxed_of, variable_of, kind_of, IsExactNamed, IsExactFor}
 use Rattle.hys_compile.specs.System.{system_of}
+use Rattle.hys_meaning.specs.Unfolded.{unfolded}
+use Rattle.hys_meaning.specs.Weight.{weight, named_weight}
+use Rattle.hys_meaning.proofs.Guardless.{same}
+use Rattle.hys_plain.specs.Meant.{boxed_of as plain_boxed}
+use Rattle.hys_compile.proofs.Weighing.{plain_guards, plain_weight}
 use Rattle.hys_compile.proofs.Texts.{beside, beside_each, both_parts}
 use Rattle.hys_compile.proofs.Declared.{IsPlainName, IsOther, other, plain_names, none_in}
 use Rattle.hys_compile.proofs.Lawful.{built, system_is, cols, filtered, count, names_differ}
@@ -55,7 +60,7 @@ arranged s next h = record {
   reals_are = ap (λ ns. filter (λ (a : Variable). not (exact.is_bool a.kind)) (map variable_of ns)) (sym (none_named is_auxiliary (refl, refl) s h));
   d = λ k c l. absurd (omega arith);
   z = λ k c l. absurd (omega arith);
-  fresh_are = λ k c l. absurd (omega arith);
+  fresh_are = refl;
 }
 
 -- ---- a solution is the state and the input
@@ -168,8 +173,21 @@ module _ {tokens : List Token} (s : Source) (next : List Affine) (h : IsPlain to
     outputs = λ v w x' y f t. sym (no_outputs t.step.after) ∙ t.step.outputs;
   }
 
-exact_for : {tokens : List Token} (s : Source) (next : List Affine) → IsPlain tokens s → AreNext s (texts is_state (names s)) next → (tolerance : Number) → IsExactFor tolerance s (built s next)
+exact_for : {tokens : List Token} (s : Source) (next : List Affine) → IsPlain tokens s → AreNext s (texts is_state (names s)) next → (tolerance : Number) → IsExactNamed tolerance s (built s next)
 exact_for s next h n tolerance = record { arranged = arranged s next h; at_each = λ x u p q. exact_at s next h x u p q n tolerance }
 
 pub plain_exact : (tokens : List Token) (s : Source) (p : PlainParts) → IsPlain tokens s → PartsOf s p → (tolerance : Number) → IsExactFor tolerance s (system_of p)
-plain_exact tokens s p h m tolerance = subst (λ S. IsExactFor tolerance s S) (sym (system_is s p m)) (exact_for s p.next h m.next tolerance)
+plain_exact tokens s p h m tolerance =
+    let named : IsExactNamed tolerance s (system_of p) = subst (λ S. IsExactNamed tolerance s S) (sym (system_is s p m)) (exact_for s p.next h m.next tolerance) in
+    subst (λ r. IsExactNamed tolerance r (system_of p)) (sym (same s (plain_guards s h))) named
+
+-- the weight of the system is the source's
+pub plain_weighs : (tokens : List Token) (s : Source) (p : PlainParts) → IsPlain tokens s → PartsOf s p → (system_of p).weight ≡ weight s
+plain_weighs tokens s p h m =
+    let a = ap length m.states in
+    let b = ap length m.inputs in
+    let c = length-map (named is_state s) plain_boxed in
+    let d = length-map (named is_input s) plain_boxed in
+    let e = plain_weight s h in
+    let f : named_weight (unfolded s) ≡ named_weight s = ap named_weight (same s (plain_guards s h)) in
+    omega arith

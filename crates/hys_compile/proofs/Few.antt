@@ -5,7 +5,7 @@ use Rattle.std.proofs.lemmas.List.{length-map}
 use Rattle.std.proofs.lemmas.List.Sums.{length-filter, count_by-le-length}
 use Rattle.hys_lex.specs.declared.token.Token.{Token}
 use Rattle.hys_ast.specs.Tree.{Source}
-use Rattle.hys_ast.specs.Names.{Name, names, name_of, parameters, is_state, is_input}
+use Rattle.hys_meaning.specs.Names.{Name, names, name_of, parameters, is_state, is_input}
 use Rattle.hys_plain.specs.declared.parts.PlainParts.{PlainParts}
 use Rattle.hys_plain.specs.Plain.{IsPlain}
 use Rattle.hys_plain.specs.Meant.{PartsOf, boxed_of}

@@ -13,11 +13,12 @@ use Rattle.hys_ast.specs.declared.source.Section.{Section}
 use Rattle.hys_ast.specs.declared.source.Section.TheVariants as section
 use Rattle.hys_ast.specs.Tree.{Tree, Decl, Shape, Item, Source}
 use Rattle.hys_ast.specs.Tree as tree
-use Rattle.hys_ast.specs.Values.{Assignment, value}
-use Rattle.hys_ast.specs.Names.{Name, name_of, names, parameters, look, is_state}
-use Rattle.hys_ast.specs.Typed.{is_real, is_left, is_defined, defines, LeftTyped}
-use Rattle.hys_ast.specs.Circular.{SomeItem}
-use Rattle.hys_ast.specs.Steps.{OfLeft, Case, CaseOf, Next, NextOf, Demand, DemandOf, InGap, GapAt}
+use Rattle.hys_meaning.specs.Values.{Assignment, value}
+use Rattle.hys_meaning.specs.Names.{Name, name_of, names, parameters, look, is_state}
+use Rattle.hys_meaning.specs.Bodies.{body_in}
+use Rattle.hys_meaning.specs.Typed.{is_real, is_left, is_defined, defines, LeftTyped}
+use Rattle.hys_meaning.specs.Circular.{SomeItem}
+use Rattle.hys_meaning.specs.Steps.{OfLeft, Case, CaseOf, Next, NextOf, Demand, DemandOf, InGap, GapAt}
 use Rattle.hys_plain.specs.Plain.{IsPlain, is_plain_item, is_plain_shape, is_continuous, declared_texts}
 use Rattle.hys_plain.specs.Meant.{columns, IsValueOf, AreNext}
 
@@ -47,18 +48,30 @@ continuous _ e = absurd (true≢false (sym e))
 pub section_of : (ds : List (List ℕ)) (i : Item) → IsTrue (is_plain_item ds i) → i.section ≡ section.Continuous
 section_of ds i e = continuous i.section (and_parts _ (is_plain_shape ds i.shape) e).0
 
-no_case : (w : Assignment) (n : Option (List ℕ)) (r : Shape) → OfLeft (λ m. Case section.Continuous w m r) n
+no_case : (w : Assignment) (n : Option (List ℕ)) (r : Shape) → OfLeft (λ m. Case w m (body_in section.Continuous r)) n
 no_case w None r = tt
-no_case w (Some n) r = tt
+no_case w (Some n) (tree.Plain e) = tt
+no_case w (Some n) (tree.Wide e t) = tt
+no_case w (Some n) (tree.Choice a b c) = tt
 
 pub case_of : (w : Assignment) (ds : List (List ℕ)) (i : Item) → IsTrue (is_plain_item ds i) → CaseOf w i
-case_of w ds i e = subst (λ (t : Section). OfLeft (λ m. Case t w m i.shape) i.name) (sym (section_of ds i e)) (no_case w i.name i.shape)
+case_of w ds i e = subst (λ (t : Section). OfLeft (λ m. Case w m (body_in t i.shape)) i.name) (sym (section_of ds i e)) (no_case w i.name i.shape)
+
+no_demand : (w : Assignment) (r : Shape) → DemandOf w (body_in section.Continuous r)
+no_demand w (tree.Plain e) = tt
+no_demand w (tree.Wide e t) = tt
+no_demand w (tree.Choice a b c) = tt
 
 pub demand_of : (w : Assignment) (ds : List (List ℕ)) (i : Item) → IsTrue (is_plain_item ds i) → Demand w i
-demand_of w ds i e = subst (λ (t : Section). DemandOf t w i.shape) (sym (section_of ds i e)) tt
+demand_of w ds i e = subst (λ (t : Section). DemandOf w (body_in t i.shape)) (sym (section_of ds i e)) (no_demand w i.shape)
+
+without_gap : (tolerance : Number) (w : Assignment) (r : Shape) → ¬ (GapAt tolerance w (body_in section.Continuous r))
+without_gap tolerance w (tree.Plain e) = λ b. b
+without_gap tolerance w (tree.Wide e t) = λ b. b
+without_gap tolerance w (tree.Choice a b c) = λ b. b
 
 pub no_gap_of : (tolerance : Number) (w : Assignment) (ds : List (List ℕ)) (i : Item) → IsTrue (is_plain_item ds i) → ¬ (InGap tolerance w i)
-no_gap_of tolerance w ds i e = subst (λ (t : Section). ¬ (GapAt t tolerance w i.shape)) (sym (section_of ds i e)) (λ b. b)
+no_gap_of tolerance w ds i e = subst (λ (t : Section). ¬ (GapAt tolerance w (body_in t i.shape))) (sym (section_of ds i e)) (without_gap tolerance w i.shape)
 
 -- ---- each state is defined once
 pub defined_in : (b : Bool) (w : Assignment) (d : Decl) (rest : Option Name) (m : List ℕ) (R : Type 0) → bytes_eq d.name m ≡ b → IsTrue (is_left is_state is_real (cond b (Some (name_of w d)) rest)) →
@@ -76,6 +89,7 @@ once w is m (d ∷ ds) h k =
 -- ---- the value of the item that defines a name
 abbrev pub value_in : Assignment → Shape → Number
 value_in w (tree.Plain e) = value w e
+value_in w (tree.Wide a b) = whole 0
 value_in w (tree.Choice a b c) = whole 0
 
 -- the first of them, else 0
@@ -109,9 +123,10 @@ at_most_one w n (i ∷ is) h = let c = counted-cons n i is in (λ t. cond-true _
 -- ---- next values
 -- what is asked of the item, by its section, name and right side
 next_at : (ns : List Name) (ds : List (List ℕ)) (w after : Assignment) (t : Section) (n : Option (List ℕ)) (r : Shape) → t ≡ section.Continuous → IsTrue (is_plain_shape ds r) → OfLeft (λ m. after m ≡ value_in w r) n →
-    OfLeft (λ m. Next t ns w after m r) n
+    OfLeft (λ m. Next ns w after m (body_in t r)) n
 next_at ns ds w after t None r e p h = tt
-next_at ns ds w after t (Some m) (tree.Plain a) e p h = subst (λ (z : Section). Next z ns w after m (tree.Plain a)) (sym e) h
+next_at ns ds w after t (Some m) (tree.Plain a) e p h = subst (λ (z : Section). Next ns w after m (body_in z (tree.Plain a))) (sym e) h
+next_at ns ds w after t (Some m) (tree.Wide a b) e p h = absurd (true≢false (sym p))
 next_at ns ds w after t (Some m) (tree.Choice a b c) e p h = absurd (true≢false (sym p))
 
 has_value : (w after : Assignment) (is : List Item) (n : Option (List ℕ)) (r : Shape) → OfLeft (λ m. counted m is ≡ 1) n → ((m : List ℕ) → counted m is ≤ 1 → defines m n ≡ true → after m ≡ value_in w r) → OfLeft (λ m. after m ≡ value_in w r) n
@@ -135,11 +150,12 @@ next_each s w h =
 
 -- ---- the forms of the next values
 value_of : (ns : List Name) (f : Affine) (w after : Assignment) (n : List ℕ) (t : Section) (m : Option (List ℕ)) (r : Shape) → t ≡ section.Continuous → IsTrue (defines n m) → IsValueOf ns f r →
-    OfLeft (λ k. Next t ns w after k r) m → sums.value f (sums.at (map w (columns ns))) ≡ after n
+    OfLeft (λ k. Next ns w after k (body_in t r)) m → sums.value f (sums.at (map w (columns ns))) ≡ after n
 value_of ns f w after n t None r e d v h = absurd (true≢false (sym d))
+value_of ns f w after n t (Some m) (tree.Wide a b) e d v h = absurd v
 value_of ns f w after n t (Some m) (tree.Choice a b c) e d v h = absurd v
 value_of ns f w after n t (Some m) (tree.Plain a) e d v h =
-    let next : after m ≡ value w a = subst (λ (z : Section). Next z ns w after m (tree.Plain a)) e h in
+    let next : after m ≡ value w a = subst (λ (z : Section). Next ns w after m (body_in z (tree.Plain a))) e h in
     v w ∙ sym next ∙ ap after (sym ((bytes_eq-Decides n m).0 d))
 
 pub next_values : (s : Source) (ds : List (List ℕ)) (w after : Assignment) → AllByRecursion (λ i. IsTrue (is_plain_item ds i)) s.items → AllByRecursion (NextOf (names s) w after) s.items → (tx : List (List ℕ)) (next : List Affine) →

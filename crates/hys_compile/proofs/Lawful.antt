@@ -3,12 +3,12 @@ use Rattle.std.proofs.Common.{◌≡◌, ℕ, ◌+◌, ◌≤◌, List, [], ◌�
 use Rattle.std.specs.List.{AllByRecursion}
 use Rattle.std.proofs.lemmas.List.{length-map, append-nil}
 use Rattle.std.proofs.lemmas.List.Elements.{All-cons, All-nil, All-append}
-use Rattle.hys_frac.specs.Differ.{Differ}
+use Rattle.hys_base.specs.Differ.{Differ}
 use Rattle.hys_lin.specs.Over.{AreTermsOver}
 use Rattle.hys_lin.specs.declared.form.Affine.{Affine}
 use Rattle.hys_lex.specs.declared.token.Token.{Token}
 use Rattle.hys_ast.specs.Tree.{Source}
-use Rattle.hys_ast.specs.Names.{Name, names, texts, is_state, is_input}
+use Rattle.hys_meaning.specs.Names.{Name, names, texts, is_state, is_input}
 use Rattle.hys_plain.specs.Plain.{IsPlain}
 use Rattle.hys_plain.specs.Meant.{PartsOf, boxed_of, columns, AreNext}
 use Rattle.hys_plain.specs.declared.parts.Boxed.{Boxed}

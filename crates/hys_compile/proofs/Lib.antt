@@ -11,3 +11,4 @@ pub mod Exactly
 pub mod Accepting
 pub mod Compiled
 pub mod Answered
+pub mod Weighing

@@ -5,8 +5,8 @@ use Rattle.std.proofs.lemmas.Bool.{and_parts, or_parts, false_from_ne_true, cond
 use Rattle.std.proofs.lemmas.Slice.Eq.{bytes_eq-Decides}
 use Rattle.hys_number.specs.Number.{Number}
 use Rattle.hys_number.specs.Ops.{whole}
-use Rattle.hys_frac.specs.Differ.{Apart, Differ}
-use Rattle.hys_ast.specs.Typed.{differ}
+use Rattle.hys_base.specs.Differ.{Apart, Differ}
+use Rattle.hys_meaning.specs.Typed.{differ}
 
 pub apart_eq : (m n : List ℕ) → ¬ (m ≡ n) → bytes_eq m n ≡ false
 apart_eq m n h = false_from_ne_true (bytes_eq m n) (λ e. h ((bytes_eq-Decides m n).0 e))

@@ -5,8 +5,9 @@ use Rattle.hys_ast.specs.declared.source.Section.{Section}
 use Rattle.hys_ast.specs.declared.source.Kind.{Kind}
 use Rattle.hys_ast.specs.declared.source.Kind.TheVariants as source
 use Rattle.hys_ast.specs.Tree.{Source}
-use Rattle.hys_ast.specs.Names.{Name, names, is_state, is_input, is_auxiliary, is_output}
-use Rattle.hys_ast.specs.Steps.{Legal}
+use Rattle.hys_meaning.specs.Unfolded.{unfolded}
+use Rattle.hys_meaning.specs.Names.{Name, names, is_state, is_input, is_auxiliary, is_output}
+use Rattle.hys_meaning.specs.Steps.{Legal}
 use Rattle.hys_sys.specs.declared.system.Kind2.{Kind2}
 use Rattle.hys_sys.specs.declared.system.Kind2.TheVariants as kind
 use Rattle.hys_sys.specs.declared.system.System.{System}
@@ -35,6 +36,10 @@ automaton_of s = record {
   outputs = map variable_of (named is_output s);
 }
 
--- the system is exact for the source's automaton, whose steps are the legal ones at the tolerance
+-- the system is exact for the automaton of a source in which each guard has a name, whose steps are the legal ones
+abbrev pub IsExactNamed : Number → Source → System → Type 0
+IsExactNamed tolerance s system = Exact (automaton_of s) (Legal tolerance s) system
+
+-- the system is exact for the source at the tolerance, which counts for each guard that has none of its own
 abbrev pub IsExactFor : Number → Source → System → Type 0
-IsExactFor tolerance s system = Exact (automaton_of s) (Legal tolerance s) system
+IsExactFor tolerance s system = IsExactNamed tolerance (unfolded s) system

@@ -9,7 +9,8 @@ use Rattle.hys_ast.specs.Tree.{Source}
 use Rattle.hys_ast.specs.Places.{place_at}
 use Rattle.hys_ast.specs.Nodes.{expressions, total, largest}
 use Rattle.hys_ast.specs.Grammar.{IsTreeOf}
-use Rattle.hys_ast.specs.Accepted.{Accepted}
+use Rattle.hys_meaning.specs.Accepted.{Accepted}
+use Rattle.hys_meaning.specs.Weight.{weight}
 use Rattle.hys_parse.specs.Depth.{IsShallow, IsFirstDeep}
 use Rattle.hys_parse.specs.Cause.{IsUngrammatical}
 use Rattle.hys_plain.specs.Plain.{IsPlain, unbuilt_place}
@@ -105,7 +106,8 @@ abbrev pub IsRefusal : List ℕ → SourceFault → Type 0
 IsRefusal text f = (f ≡ no_memory) ⊎ IsCause text f
 
 -- ---- systems
--- The system is one of a plain source with this text: lawful, and exact for the source at every tolerance.
+-- The system is one of a plain source with this text: lawful, with the source's weight, and exact for the source
+-- at every tolerance.
 pub record IsCompiled (text : List ℕ) (system : System) : Type 0 where
   pub tokens : List Token
   pub tree : Source
@@ -113,4 +115,5 @@ pub record IsCompiled (text : List ℕ) (system : System) : Type 0 where
   pub plain : IsPlain tokens tree
   pub accepted : Accepted tree
   pub lawful : IsSystem system
+  pub weight : system.weight ≡ weight tree
   pub exact : (tolerance : Number) → IsExactFor tolerance tree system

@@ -1,7 +1,7 @@
 ghost use Rattle.std.specs.Prelude.{◌≡◌, ◌+◌, ◌<◌, ◌^◌, ◌++◌, length, map, IfOk, OnOk};
 ghost use Rattle.hys_compile.specs.System.{column_of, system_of};
 
-use hys_frac::List;
+use hys_base::List;
 use hys_plain::{Boxed, PlainParts};
 use hys_sys::{Column, ColumnRole, Kind2, System};
 use std::alloc::{AllocError, Global};

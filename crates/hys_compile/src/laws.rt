@@ -6,7 +6,7 @@ ghost use Rattle.hys_number.specs.Number.{Number};
 ghost use Rattle.hys_lex.specs.declared.token.Token.{Token};
 ghost use Rattle.hys_ast.specs.Tree.{Source};
 ghost use Rattle.hys_ast.specs.Nodes.{nodes, total, expressions};
-ghost use Rattle.hys_ast.specs.Accepted.{Accepted};
+ghost use Rattle.hys_meaning.specs.Accepted.{Accepted};
 ghost use Rattle.hys_plain.specs.Plain.{IsPlain};
 ghost use Rattle.hys_plain.specs.Meant.{PartsOf};
 ghost use Rattle.hys_plain.specs.declared.parts.PlainParts.{PlainParts};

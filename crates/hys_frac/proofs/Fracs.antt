@@ -24,10 +24,6 @@ pub neg_make : (q : Number) → make (neg_ℤ q.num) q.den ≡ neg q
 unfolding neg
 neg_make q = refl
 
-pub one_reduced : IsReduced (pos 0) (pos 1)
-unfolding gcd
-one_reduced = record { positive = omega (arith, ints); below = omega arith; reduced = refl }
-
 -- what the code computes for the parts of `make num den`
 pub record Divided (num den : ℤ) (g : ℕ) : Type 0 where
   pub positive : 0 < g

@@ -9,3 +9,4 @@ pub mod Readings
 pub mod RoundTrip
 pub mod Scaling
 pub mod SignedOrder
+pub mod Signs

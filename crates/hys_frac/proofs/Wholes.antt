@@ -3,7 +3,7 @@ use Rattle.std.proofs.Common.{◌≡◌, ℕ, ◌<◌, ◌^◌, ℤ, pos, sym, a
 use Rattle.std.proofs.Math.Nat.{mod-one}
 use borrow.Author.Differences.{ints}
 use Rattle.hys_number.specs.Gcd.{gcd, gcd_within}
-use Rattle.hys_number.specs.Number.{Number, make}
+use Rattle.hys_number.specs.Number.{make}
 use Rattle.hys_number.specs.Ops.{whole}
 use Rattle.hys_frac.specs.Frac.{IsReduced}
 
@@ -14,7 +14,7 @@ gcd-one n = ap (λ r. gcd_within 1 1 r) (mod-one n)
 widened : (n : ℕ) → n < 2 ^ 32 → to_z w64 n ≡ pos n
 widened n h = omega (arith, ints)
 
-reduced_at : (z : ℤ) (n : ℕ) → z ≡ pos n → n < 2 ^ 32 → IsReduced z (pos 1)
+pub reduced_at : (z : ℤ) (n : ℕ) → z ≡ pos n → n < 2 ^ 32 → IsReduced z (pos 1)
 reduced_at z n e h = subst (λ (x : ℤ). IsReduced x (pos 1)) (sym e) (record { positive = omega (arith, ints); below = omega (arith, ints); reduced = gcd-one n })
 
 pub whole_reduced : (n : ℕ) → n < 2 ^ 32 → IsReduced (to_z w64 n) (pos 1)

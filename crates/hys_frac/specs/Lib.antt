@@ -2,4 +2,4 @@ pub mod Compare
 pub mod Frac
 pub mod Read
 pub mod Written
-pub mod Differ
+pub use Rattle.hys_base.specs.Differ

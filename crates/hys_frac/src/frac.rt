@@ -80,6 +80,27 @@ impl Frac {
         self.den
     }
 
+    /// Whether the number is 0.
+    pub fn is_zero(self) -> bool
+        ensures { IsTrue result ↔ (self ≡ whole 0) }
+    {
+        self.num() == 0
+    }
+
+    /// Whether the number is below 0.
+    pub fn is_negative(self) -> bool
+        ensures { IsTrue result ↔ (self <ₙ whole 0) }
+    {
+        self.num() < 0
+    }
+
+    /// Whether the number is above 0.
+    pub fn is_positive(self) -> bool
+        ensures { IsTrue result ↔ (whole 0 <ₙ self) }
+    {
+        self.num() > 0
+    }
+
     /// The number with the other sign.
     pub fn neg(self) -> Frac
         ensures { result ≡ neg_of self }

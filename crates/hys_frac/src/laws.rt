@@ -1,10 +1,21 @@
-//! The laws of an ordered field, of the numbers that fractions stand for. The calls do nothing.
+//! The laws of an ordered field, of the numbers that fractions stand for. But for `constants`, the
+//! calls do nothing.
 
 ghost use Rattle.std.specs.Prelude.{◌≡◌, ◌≢◌, ◌↔◌, ◌⊎◌, IsTrue, Ok};
 ghost use Rattle.hys_number.specs.Number.{Number};
 ghost use Rattle.hys_number.specs.Ops.{◌+ₙ◌, ◌*ₙ◌, ◌-ₙ◌, ◌≤ₙ◌, ◌<ₙ◌, whole, neg, inverse, fits};
 ghost use Rattle.hys_frac.specs.Read.{reading};
 ghost use Rattle.hys_frac.specs.Written.{number_text};
+
+use crate::frac::Frac;
+
+/// The two constants, which are the numbers 0 and 1.
+pub fn constants() -> (Frac, Frac)
+    ensures zero { result.0 ≡ whole 0 }
+    ensures one { result.1 ≡ whole 1 }
+{
+    (Frac::ZERO, Frac::ONE)
+}
 
 /// Numbers with their sum and product are a commutative ring.
 pub fn ring()

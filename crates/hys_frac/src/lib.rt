@@ -1,10 +1,9 @@
-//! Exact fractions whose two parts fit 64 bits, and the small types that contracts see as lists.
+//! Exact fractions whose two parts fit 64 bits.
 #![tactic(auto)]
 
 mod digits;
 mod frac;
 pub mod laws;
-mod list;
 mod numeral;
 #[cfg(test)]
 mod quotient_tests;
@@ -15,9 +14,7 @@ mod scaled;
 mod shift;
 #[cfg(test)]
 mod tests;
-mod text;
 
 pub use frac::Frac;
-pub use list::List;
+pub use hys_base::{List, Text};
 pub use read::FracFault;
-pub use text::Text;

@@ -5,3 +5,4 @@ pub mod Opening
 pub mod Matches
 pub mod Fronts
 pub mod Spacing
+pub mod Total

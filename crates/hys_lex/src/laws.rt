@@ -1,6 +1,6 @@
 //! What holds of every cut, as calls that do nothing.
 
-ghost use Rattle.std.specs.Prelude.{◌≡◌, ℕ, List, All, AllPairs, IsAscii, length, map, slice_range};
+ghost use Rattle.std.specs.Prelude.{◌≡◌, ◌⊎◌, ℕ, List, All, AllPairs, IsAscii, length, map, slice_range};
 ghost use Rattle.hys_lex.specs.Words.{keywords, signs, IsAt};
 ghost use Rattle.hys_lex.specs.Named.{named_keywords, named_signs};
 ghost use Rattle.hys_lex.specs.Cut.{Cut, IsFirstFault, IsTokenOf, Precedes};
@@ -15,6 +15,11 @@ pub fn one_cut()
     ensures cut { (text : List ℕ) (a b : List CutToken) → Cut text a → Cut text b → a ≡ b }
     ensures fault { (text : List ℕ) (a b : Fault) → IsFirstFault text a → IsFirstFault text b → a ≡ b }
     ensures apart { (text : List ℕ) (fault : Fault) (tokens : List CutToken) → IsFirstFault text fault → Cut text tokens → ⊥ }
+{}
+
+/// A text has a cut or a first fault: with the law above, exactly one of the two.
+pub fn cut_or_fault()
+    ensures { (text : List ℕ) → ((tokens : List CutToken) × Cut text tokens) ⊎ ((fault : Fault) × IsFirstFault text fault) }
 {}
 
 /// The spans of the tokens of a cut rise within the text, and the bytes of each are a token of its kind,

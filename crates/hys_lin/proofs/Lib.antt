@@ -4,3 +4,4 @@ pub mod Ranging
 pub mod Summing
 pub mod Lists
 pub mod Stated
+pub mod Examples

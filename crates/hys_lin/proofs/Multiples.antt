@@ -29,6 +29,17 @@ answers_same (Err (Shown l)) os qs e h = sym e ∙ h
 answers_same (Err Memory) os qs e h = tt
 
 -- ---- a term that is left out where its factor is 0
+pub kept_none : (c : ℕ) (a : Number) → a ≡ whole 0 → kept c a ≡ []
+kept_none c a e = ap (λ (z : ℤ). kept_by z (record { column = c; factor = a })) ((zero_num a).1 e)
+
+pub kept_some : (c : ℕ) (a : Number) → ¬ (a ≡ whole 0) → kept c a ≡ record { column = c; factor = a } ∷ []
+kept_some c a h = go a.num refl
+  where
+    go : (z : ℤ) → a.num ≡ z → kept_by z (record { column = c; factor = a }) ≡ record { column = c; factor = a } ∷ []
+    go (pos zero) e = absurd (h ((zero_num a).0 e))
+    go (pos (suc n)) e = refl
+    go (negsuc n) e = refl
+
 pub sum_kept : (c : ℕ) (a : Number) (rest : List Term) (v : Assignment) → sum_of (kept c a ++ rest) v ≡ a *ₙ v c +ₙ sum_of rest v
 sum_kept c a rest v = go a.num refl
   where

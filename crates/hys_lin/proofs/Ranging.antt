@@ -1,14 +1,35 @@
-use Rattle.std.proofs.Common.{◌≡◌, ◌<◌, List, [], ◌∷◌, length, ℤ, pos, negsuc, true, false, refl}
+use Rattle.std.proofs.Common.{◌≡◌, ◌<◌, List, [], ◌∷◌, length, ℤ, pos, negsuc, ◌<ℤ◌, Bool, true, false, cond, refl, arith}
+use borrow.Author.Differences.{ints}
 use Rattle.hys_number.specs.Number.{Number}
-use Rattle.hys_number.specs.Ops.{◌*ₙ◌, ◌≤ₙ◌, whole}
+use Rattle.hys_number.specs.Ops.{◌*ₙ◌, ◌≤ₙ◌, ◌<ₙ◌, whole}
 use Rattle.hys_number.proofs.Field.{add_comm}
 use Rattle.hys_number.proofs.Order.{le_refl', le_of_lt, add-le-add, mul-le-mul_left, mul-le-mul_left_neg, at_least_zero, below_zero}
+use Rattle.hys_number.proofs.Signs.{negative_num}
 use Rattle.hys_lin.specs.declared.form.Term.{Term}
 use Rattle.hys_lin.specs.declared.form.Affine.{Affine}
 use Rattle.hys_lin.specs.declared.form.Interval.{Interval}
 use Rattle.hys_lin.specs.Sums.{Assignment, sum_of, value, Within, EachColumn}
 use Rattle.hys_lin.specs.Operations.{sum_by}
 use Rattle.hys_lin.specs.Ranges.{InBoxes, box_at, end_by_sign, end_at, end_of}
+
+-- the end by the sign is the low one where exactly one of the two holds: below 0, greatest
+pub end_negative : (greatest : Bool) (a : Number) (i : Interval) → a <ₙ whole 0 → end_by_sign greatest a.num i ≡ cond greatest i.low i.high
+end_negative greatest a i l = go greatest a.num ((negative_num a).1 l)
+  where
+    go : (g : Bool) (z : ℤ) → z <ℤ pos 0 → end_by_sign g z i ≡ cond g i.low i.high
+    go true (pos n) h = absurd (omega (arith, ints))
+    go false (pos n) h = absurd (omega (arith, ints))
+    go true (negsuc n) h = refl
+    go false (negsuc n) h = refl
+
+pub end_else : (greatest : Bool) (a : Number) (i : Interval) → ¬ (a <ₙ whole 0) → end_by_sign greatest a.num i ≡ cond greatest i.high i.low
+end_else greatest a i l = go greatest a.num (λ h. l ((negative_num a).0 h))
+  where
+    go : (g : Bool) (z : ℤ) → ¬ (z <ℤ pos 0) → end_by_sign g z i ≡ cond g i.high i.low
+    go true (pos n) h = refl
+    go false (pos n) h = refl
+    go true (negsuc n) h = absurd (h (omega (arith, ints)))
+    go false (negsuc n) h = absurd (h (omega (arith, ints)))
 
 product_around : (f : Number) (i : Interval) (x : Number) → Within i x → (f *ₙ end_by_sign false f.num i ≤ₙ f *ₙ x) × (f *ₙ x ≤ₙ f *ₙ end_by_sign true f.num i)
 product_around f i x w = go f.num refl

@@ -31,6 +31,9 @@ plus a b = record { op = Add; left = a; right = b }
 abbrev pub minus : Number → Number → Lost
 minus a b = record { op = Sub; left = a; right = b }
 
+abbrev pub over : Number → Number → Lost
+over a b = record { op = Div; left = a; right = b }
+
 -- of a sum that starts at a number: for each term its product with the number that `at` gives it, and then
 -- that product after the sum of what stands before
 abbrev pub summing : Number → List Term → (Term → Number) → List Lost

@@ -47,6 +47,10 @@ pub record Within (i : Interval) (a : Number) : Type 0 where
 abbrev pub IsInterval : Interval → Type 0
 IsInterval i = i.low ≤ₙ i.high
 
+-- the interval is 0 to 1
+abbrev pub IsUnit : Interval → Type 0
+IsUnit i = (i.low ≡ whole 0) × (i.high ≡ whole 1)
+
 -- each column of the terms has the property
 abbrev pub EachColumn : (ℕ → Type 0) → List Term → Type 0
 EachColumn P [] = Unit {0}

@@ -4,9 +4,9 @@ ghost use Rattle.hys_number.specs.Ops.{◌+ₙ◌, ◌*ₙ◌};
 ghost use Rattle.hys_lin.specs.Sums.{Assignment, value as value_of, AreTerms};
 ghost use Rattle.hys_lin.specs.Scaled.{AnswersLost, scaling, scaling_form, adding, adding_form, kept, scaled, taken, taking, merged};
 
+use crate::checked::{add_product, multiply};
 use crate::form::{Affine, Term};
 use crate::lost::LinFault;
-use crate::sum::{add_product, multiply};
 use hys_frac::{Frac, List};
 use std::alloc::{AllocFailed, Global};
 use std::cmp::Ordering;
@@ -105,7 +105,7 @@ pub fn push_scaled(out: &mut Vec<Term>, by: Frac, terms: &[Term]) -> Result<(), 
 pub fn push(out: &mut Vec<Term>, column: u32, factor: Frac) -> Result<(), AllocFailed<Term>>
     ensures { out.new.items ≡ (if is_ok result then out.old.items ++ kept column factor else out.old.items) }
 {
-    if factor.num() == 0 {
+    if factor.is_zero() {
         return Ok(());
     }
     out.push(Term { column, factor })

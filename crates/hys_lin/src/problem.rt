@@ -1,5 +1,5 @@
 use crate::form::{Affine, Interval, Row};
-use hys_frac::List;
+use hys_base::List;
 
 /// A linear problem: a box for each column, rows, a cost to be made least, and the columns with
 /// box 0 to 1 that have to be 0 or 1, in strictly rising order. Each column that the rows, the

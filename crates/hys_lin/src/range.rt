@@ -4,9 +4,9 @@ ghost use Rattle.hys_lin.specs.Sums.{Assignment, value as value_of, EachColumn, 
 ghost use Rattle.hys_lin.specs.Operations.{first_lost, summing};
 ghost use Rattle.hys_lin.specs.Ranges.{InBoxes, end_by_sign, end_at, end_of};
 
+use crate::checked::add_product;
 use crate::form::{Affine, Interval};
 use crate::lost::Lost;
-use crate::sum::add_product;
 use hys_frac::Frac;
 
 /// The least and the greatest value of the form over the boxes, or the first product or partial
@@ -42,7 +42,7 @@ fn end(form: &Affine, boxes: &[Interval], greatest: bool) -> Result<Frac, Lost>
 fn side(factor: Frac, range: Interval, greatest: bool) -> Frac
     ensures { result ≡ end_by_sign greatest factor.num range }
 {
-    if (factor.num() < 0) == greatest {
+    if factor.is_negative() == greatest {
         range.low
     } else {
         range.high

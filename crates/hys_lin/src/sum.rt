@@ -1,11 +1,12 @@
-ghost use Rattle.std.specs.Prelude.{◌≡◌, ◌<◌, ◌++◌, [], ◌∷◌, length, IfOk, IsTrue, ◌↔◌};
+ghost use Rattle.std.specs.Prelude.{◌≡◌, ◌<◌, length, IfOk, IsTrue, ◌↔◌};
 ghost use Rattle.std.specs.Result.{result_err};
-ghost use Rattle.hys_number.specs.Ops.{◌+ₙ◌, ◌*ₙ◌, whole};
+ghost use Rattle.hys_number.specs.Ops.{◌+ₙ◌, whole};
 ghost use Rattle.hys_lin.specs.Sums.{sum_of, value as value_of, Holds, EachColumn, at};
-ghost use Rattle.hys_lin.specs.Operations.{first_lost, times, plus, summing};
+ghost use Rattle.hys_lin.specs.Operations.{first_lost, summing};
 
+use crate::checked::add_product;
 use crate::form::{Affine, Point, Row, Term};
-use crate::lost::{Lost, Op};
+use crate::lost::Lost;
 use hys_frac::Frac;
 
 /// The sum of factor times number over the terms, or the first product or partial sum that
@@ -15,7 +16,7 @@ pub fn dot(terms: &[Term], point: &Point) -> Result<Frac, Lost>
     ensures value { IfOk result (λ r. r ≡ sum_of terms.now (at point.now.values)) }
     ensures lost { result_err result ≡ first_lost (summing (whole 0) terms.now (λ t. at point.now.values t.column)) }
 {
-    sum_from(Frac::ZERO, terms, point)
+    sum_from(Frac::whole(0), terms, point)
 }
 
 /// The value of the form at the point, or the first product or partial sum that doesn't fit. The
@@ -55,43 +56,4 @@ fn sum_from(start: Frac, terms: &[Term], point: &Point) -> Result<Frac, Lost>
         sum = add_product(sum, term.factor, values[term.column as usize])?;
     }
     Ok(sum)
-}
-
-// The sum with one more product.
-pub fn add_product(sum: Frac, factor: Frac, number: Frac) -> Result<Frac, Lost>
-    ensures value { IfOk result (λ r. r ≡ sum +ₙ factor *ₙ number) }
-    ensures lost { result_err result ≡ first_lost (times factor number ∷ plus sum (factor *ₙ number) ∷ []) }
-{
-    let product = multiply(factor, number)?;
-    add(sum, product)
-}
-
-// The sum, or its operands where it doesn't fit.
-pub fn add(left: Frac, right: Frac) -> Result<Frac, Lost>
-    ensures value { IfOk result (λ r. r ≡ left +ₙ right) }
-    ensures lost { result_err result ≡ first_lost (plus left right ∷ []) }
-{
-    match left.add(right) {
-        Some(sum) => Ok(sum),
-        None => Err(Lost {
-            op: Op::Add,
-            left,
-            right,
-        }),
-    }
-}
-
-// The product, or its operands where it doesn't fit.
-pub fn multiply(left: Frac, right: Frac) -> Result<Frac, Lost>
-    ensures value { IfOk result (λ r. r ≡ left *ₙ right) }
-    ensures lost { result_err result ≡ first_lost (times left right ∷ []) }
-{
-    match left.mul(right) {
-        Some(product) => Ok(product),
-        None => Err(Lost {
-            op: Op::Mul,
-            left,
-            right,
-        }),
-    }
 }

@@ -8,10 +8,10 @@ use Rattle.hys_number.proofs.Field.{neg-add}
 use Rattle.hys_number.proofs.Scale.{overs, common6, common6_of}
 use Rattle.hys_number.proofs.Ring.{by_ring, v as x, k, minus, ◌⊕◌, ◌⊖◌}
 use Rattle.hys_lin.specs.Sums.{Assignment}
-use Rattle.hys_prog.specs.declared.formula.Connective.{Connective}
-use Rattle.hys_prog.specs.declared.formula.Connective.TheVariants.{And, Or, Iff, Then, From}
+use Rattle.hys_formula.specs.declared.formula.Connective.{Connective}
+use Rattle.hys_formula.specs.declared.formula.Connective.TheVariants.{And, Or, Iff, Then, From}
 use Rattle.hys_lin.specs.Bits.{bit}
-use Rattle.hys_prog.specs.Formulas.{same, connect}
+use Rattle.hys_formula.specs.Formulas.{same, connect}
 use Rattle.hys_logic.specs.declared.literal.Literal.{Literal}
 use Rattle.hys_logic.specs.declared.literal.Literal.TheVariants.{Fixed, Column}
 use Rattle.hys_logic.specs.declared.row.Sign.{Sign}

@@ -8,10 +8,10 @@ use Rattle.hys_number.proofs.Field.{add_zero}
 use Rattle.hys_number.proofs.Ring.{by_ring, v as var, k as num, ◌⊕◌}
 use Rattle.hys_lin.specs.declared.form.Row.{Row}
 use Rattle.hys_lin.specs.Sums.{Assignment, HoldAll}
-use Rattle.hys_prog.specs.declared.formula.Connective.{Connective}
-use Rattle.hys_prog.specs.declared.formula.Connective.TheVariants.{And, Or, Iff, Then, From}
-use Rattle.hys_lin.specs.Bits.{bit, IsBit}
-use Rattle.hys_prog.specs.Formulas.{FormulaTree, constant, named, negated, joined, is_one, truth, connect, connectives, EachName}
+use Rattle.hys_formula.specs.declared.formula.Connective.{Connective}
+use Rattle.hys_formula.specs.declared.formula.Connective.TheVariants.{And, Or, Iff, Then, From}
+use Rattle.hys_lin.specs.Bits.{bit, IsBit, is_one}
+use Rattle.hys_formula.specs.Formulas.{FormulaTree, constant, named, negated, joined, truth, connect, connectives, EachName}
 use Rattle.hys_logic.specs.declared.literal.Literal.{Literal}
 use Rattle.hys_logic.specs.declared.literal.Literal.TheVariants.{Fixed, Column}
 use Rattle.hys_logic.specs.Literals.{number_of, literal_of, opposite, LiteralBelow}

@@ -5,7 +5,7 @@ use Rattle.hys_number.specs.Number.{Number}
 use Rattle.hys_number.specs.Ops.{◌+ₙ◌, neg, whole}
 use Rattle.hys_lin.specs.Sums.{Assignment}
 use Rattle.hys_lin.specs.Bits.{bit}
-use Rattle.hys_prog.specs.Formulas.{FormulaTree, constant, named, negated, joined, connectives}
+use Rattle.hys_formula.specs.Formulas.{FormulaTree, constant, named, negated, joined, connectives}
 use Rattle.hys_logic.specs.declared.literal.Literal.{Literal}
 use Rattle.hys_logic.specs.declared.literal.Literal.TheVariants.{Fixed, Column}
 

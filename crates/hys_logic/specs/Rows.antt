@@ -5,10 +5,10 @@ use Rattle.hys_number.specs.Ops.{◌+ₙ◌, ◌-ₙ◌, neg, whole, int}
 use Rattle.hys_lin.specs.declared.form.Term.{Term}
 use Rattle.hys_lin.specs.declared.form.Row.{Row}
 use Rattle.hys_lin.specs.Sums.{Assignment, sum_of, AreTerms, EachColumn}
-use Rattle.hys_prog.specs.declared.formula.Connective.{Connective}
-use Rattle.hys_prog.specs.declared.formula.Connective.TheVariants.{And, Or, Iff, Then, From}
+use Rattle.hys_formula.specs.declared.formula.Connective.{Connective}
+use Rattle.hys_formula.specs.declared.formula.Connective.TheVariants.{And, Or, Iff, Then, From}
 use Rattle.hys_lin.specs.Bits.{bit, IsBit}
-use Rattle.hys_prog.specs.Formulas.{FormulaTree, constant, named, negated, joined, connectives, truth, connect}
+use Rattle.hys_formula.specs.Formulas.{FormulaTree, constant, named, negated, joined, connectives, truth, connect}
 use Rattle.hys_logic.specs.declared.literal.Literal.{Literal}
 use Rattle.hys_logic.specs.declared.literal.Literal.TheVariants.{Fixed, Column}
 use Rattle.hys_logic.specs.declared.row.Sign.{Sign}

@@ -2,18 +2,18 @@ ghost use Rattle.std.specs.Prelude.{◌≡◌, ◌+◌, ◌*◌, ◌^◌, ◌≤
 ghost use Rattle.hys_number.specs.Number.{Number};
 ghost use Rattle.hys_lin.specs.Sums.{Assignment, value, AreTerms, EachColumn, HoldAll};
 ghost use Rattle.hys_lin.specs.Bits.{bit, IsBit};
-ghost use Rattle.hys_prog.specs.Formulas.{tree_of, connectives, EachName, truth};
+ghost use Rattle.hys_formula.specs.Formulas.{tree_of, connectives, EachName, truth};
 ghost use Rattle.hys_logic.specs.declared.row.Sign.TheVariants.{Plus, Minus};
-ghost use Rattle.hys_prog.specs.declared.formula.Connective.TheVariants.{And, Iff};
+ghost use Rattle.hys_formula.specs.declared.formula.Connective.TheVariants.{And, Iff};
 ghost use Rattle.hys_logic.specs.Literals.{column_in, literal_of, number_of, LiteralBelow};
 ghost use Rattle.hys_logic.specs.Rows.{Added, Agrees, BitsFrom, fresh_of, stated_of, connective_stated, or_stated};
 ghost use Rattle.hys_lin.specs.Stated.{AreRows, EachBelow};
 
 use crate::literal::{Literal, Logic};
 use crate::row::{Part, Sign, nothing, row_of};
-use hys_frac::List;
+use hys_base::List;
 use hys_lin::Row;
-use hys_prog::{Connective, Formula};
+use hys_formula::{Connective, Formula};
 use std::alloc::{AllocError, Global};
 
 // The literal of a formula whose rows were made, and the next free column.

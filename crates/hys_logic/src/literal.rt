@@ -6,7 +6,7 @@ ghost use Rattle.hys_lin.specs.Bits.{bit as bit_of};
 
 use crate::row::{Sign, single, term};
 use crate::small::bit;
-use hys_frac::List;
+use hys_base::List;
 use hys_lin::{Affine, Row, Term};
 use std::alloc::{AllocError, Global};
 

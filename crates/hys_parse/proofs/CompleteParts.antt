@@ -11,11 +11,11 @@ use Rattle.hys_ast.specs.declared.source.Section.{Section}
 use Rattle.hys_ast.specs.declared.source.Section.TheVariants as section
 use Rattle.hys_ast.specs.declared.source.Kind.{Kind}
 use Rattle.hys_ast.specs.Operators.{binary_of}
-use Rattle.hys_ast.specs.Grammar.{Is, At, DerivesExpr, has_bounds, kind_of, DerivesDecl, plain, bounded, valued, DerivesNames, last, further, DerivesDecls, no_decls, line, DerivesIte, short, long, DerivesChoice, bare, braced, has_formulas, DerivesItem, formula, choice, must, DerivesItems, no_items, item}
+use Rattle.hys_ast.specs.Grammar.{Is, At, DerivesExpr, has_bounds, kind_of, DerivesDecl, plain, bounded, valued, DerivesNames, last, further, DerivesDecls, no_decls, line, DerivesIte, short, long, DerivesChoice, bare, braced, DerivesGuard, narrow, wide, has_formulas, DerivesItem, formula, guard, choice, must, DerivesItems, no_items, item}
 use Rattle.hys_ast.specs.Tree.{Tree, Decl, Shape, Item, Source}
 use Rattle.hys_ast.specs.Tree as tree
 use Rattle.hys_parse.specs.Reading.{same_kind, after}
-use Rattle.hys_parse.specs.Sections.{expr_at, turns, all_turns, decl_with, has_value, bounded_at, valued_at, plain_at, decl_at, name_turn, kind_at, line_at, line_turn, ite_at, braced_at, choice_at, formula_at, shape_at, named_at, must_at, item_at, item_turn}
+use Rattle.hys_parse.specs.Sections.{expr_at, turns, all_turns, decl_with, has_value, bounded_at, valued_at, plain_at, decl_at, name_turn, kind_at, line_at, line_turn, ite_at, braced_at, choice_at, formula_at, tolerance_at, guard_at, shape_at, named_at, must_at, item_at, item_turn}
 use Rattle.hys_parse.proofs.Steps.{expect_is, after_is, after_not}
 use Rattle.hys_parse.proofs.Turns.{first_turn, last_turn}
 use Rattle.hys_parse.proofs.Complete.{shrinks, front_rank, fronts, closes, expr_complete}
@@ -119,7 +119,7 @@ decls_complete room s ts _ _ no_decls n fits before fuel enough = last_turn (lin
 decls_complete room s _ rest _ (line {k = k} {next = next} {more = more} {ds = ds} {es = es} l end w here i later) n fits before fuel enough =
     let less : length (end ∷ more) < length next = names_shrink s k next (end ∷ more) ds here in
     first_turn (line_turn room s) fuel before (before ++ ds) (l ∷ next) more (Ok (before ++ (ds ++ es), rest)) (line_reads room s k before ds l end next more w (all_names room s k next more ds before end here i (omega arith)) i) enough (omega arith)
-    (λ left wide. decls_complete room s more rest es later n (omega arith) (before ++ ds) left wide ∙ ap (λ (x : List Decl). Ok (x, rest)) (append_assoc before ds es))
+    (λ left larger. decls_complete room s more rest es later n (omega arith) (before ++ ds) left larger ∙ ap (λ (x : List Decl). Ok (x, rest)) (append_assoc before ds es))
 
 pub decls_shrink : (s : Section) (ts rest : List Lexeme) (ds : List Decl) → DerivesDecls s ts rest ds → length rest ≤ length ts
 decls_shrink s ts _ _ no_decls = omega arith
@@ -173,6 +173,27 @@ choice_shrinks : (ts rest : List Lexeme) (x : Shape) → DerivesChoice ts rest x
 choice_shrinks ts rest x (bare d) = ite_shrinks ts rest x d
 choice_shrinks _ rest x (braced {next = next} o c i d j) = omega (arith, ite_shrinks next (c ∷ rest) x d)
 
+-- guards
+
+narrow_reads : (room : ℕ) (ts rest : List Lexeme) (e : Tree) → expr_at room ts ≡ Ok (e, rest) → after (token.Sign sign.OPEN_BRACKET) rest ≡ None → guard_at room ts ≡ Ok (tree.Plain e, rest)
+unfolding guard_at
+narrow_reads room ts rest e d n = rw (d, n) refl
+
+wide_reads : (room : ℕ) (o c : Lexeme) (ts next rest : List Lexeme) (a b : Tree) → expr_at room ts ≡ Ok (a, o ∷ next) → Is (token.Sign sign.OPEN_BRACKET) o → expr_at room next ≡ Ok (b, c ∷ rest) → Is (token.Sign sign.CLOSE_BRACKET) c →
+    guard_at room ts ≡ Ok (tree.Wide a b, rest)
+unfolding guard_at tolerance_at
+wide_reads room o c ts next rest a b d i e j = rw (d, after_is (token.Sign sign.OPEN_BRACKET) o next i, e, expect_is (token.Sign sign.CLOSE_BRACKET) c rest j) refl
+
+guard_complete : (room : ℕ) (ts rest : List Lexeme) (x : Shape) → DerivesGuard ts rest x → length ts ≤ room → front_rank rest < 1 → after (token.Sign sign.OPEN_BRACKET) rest ≡ None → guard_at room ts ≡ Ok (x, rest)
+guard_complete room ts rest _ (narrow {e = e} d) fits stops n = narrow_reads room ts rest e (expr_complete room ts rest e d fits stops) n
+guard_complete room ts rest _ (wide {next = next} {a = a} {b = b} o c d i e j) fits stops n =
+    let less : length (o ∷ next) ≤ length ts = expr_shrinks ts (o ∷ next) a d in
+    wide_reads room o c ts next rest a b (expr_before room (token.Sign sign.OPEN_BRACKET) o ts next a d i refl fits) i (expr_before room (token.Sign sign.CLOSE_BRACKET) c next rest b e j refl (omega arith)) j
+
+guard_shrinks : (ts rest : List Lexeme) (x : Shape) → DerivesGuard ts rest x → length rest ≤ length ts
+guard_shrinks ts rest _ (narrow {e = e} d) = expr_shrinks ts rest e d
+guard_shrinks ts rest _ (wide {next = next} {a = a} {b = b} o c d i e j) = omega (arith, expr_shrinks ts (o ∷ next) a d, expr_shrinks next (c ∷ rest) b e)
+
 -- items
 
 item_is_named : (room : ℕ) (s : Section) (ts : List Lexeme) → has_formulas s ≡ true → item_at room s ts ≡ named_at room s ts
@@ -180,6 +201,7 @@ item_is_named room section.Must ts h = absurd cc
 item_is_named room _ ts h = refl
 
 shape_is_formula : (room : ℕ) (s : Section) (ts : List Lexeme) → has_formulas s ≡ true → shape_at room s ts ≡ formula_at room ts
+shape_is_formula room section.Ad ts h = absurd cc
 shape_is_formula room section.Da ts h = absurd cc
 shape_is_formula room _ ts h = refl
 
@@ -201,6 +223,9 @@ item_complete : (room : ℕ) (s : Section) (ts rest : List Lexeme) (x : Item) �
 item_complete room s _ rest _ (formula {next = next} {e = e} l q z h i j d k) fits =
     item_is_named room s (l ∷ q ∷ next) h ∙ named_reads room s l q z next rest (tree.Plain e) i j
     (shape_is_formula room s next h ∙ formula_reads room next (z ∷ rest) e (expr_before room (token.Sign sign.SEMICOLON) z next rest e d k refl (omega arith))) k
+item_complete room _ _ rest _ (guard {next = next} {shape = x} l q z i j d k) fits =
+    named_reads room section.Ad l q z next rest x i j
+    (guard_complete room next (z ∷ rest) x d (omega arith) (closes (token.Sign sign.SEMICOLON) z rest k refl) (after_not (token.Sign sign.OPEN_BRACKET) (token.Sign sign.SEMICOLON) z rest k refl)) k
 item_complete room _ _ rest _ (choice {next = next} {shape = x} l q z i j d k) fits =
     named_reads room section.Da l q z next rest x i j
     (choice_complete room next (z ∷ rest) x d (omega arith) (closes (token.Sign sign.SEMICOLON) z rest k refl) (after_not (token.Keyword keyword.ELSE) (token.Sign sign.SEMICOLON) z rest k refl)) k
@@ -208,11 +233,13 @@ item_complete room _ _ rest _ (must {ts = ts} {e = e} l z d k) fits = must_reads
 
 item_shrinks : (s : Section) (ts rest : List Lexeme) (x : Item) → DerivesItem s ts rest x → length rest < length ts
 item_shrinks s _ rest _ (formula {next = next} {e = e} l q z h i j d k) = omega (arith, expr_shrinks next (z ∷ rest) e d)
+item_shrinks _ _ rest _ (guard {next = next} {shape = x} l q z i j d k) = omega (arith, guard_shrinks next (z ∷ rest) x d)
 item_shrinks _ _ rest _ (choice {next = next} {shape = x} l q z i j d k) = omega (arith, choice_shrinks next (z ∷ rest) x d)
 item_shrinks _ _ rest _ (must {ts = ts} {e = e} l z d k) = omega (arith, expr_shrinks (l ∷ ts) (z ∷ rest) e d)
 
 item_front : (s : Section) (ts rest : List Lexeme) (x : Item) → DerivesItem s ts rest x → after (token.Sign sign.CLOSE_BRACE) ts ≡ None
 item_front s _ rest _ (formula {next = next} l q z h i j d k) = after_not (token.Sign sign.CLOSE_BRACE) token.Name l (q ∷ next) i refl
+item_front _ _ rest _ (guard {next = next} l q z i j d k) = after_not (token.Sign sign.CLOSE_BRACE) token.Name l (q ∷ next) i refl
 item_front _ _ rest _ (choice {next = next} l q z i j d k) = after_not (token.Sign sign.CLOSE_BRACE) token.Name l (q ∷ next) i refl
 item_front _ _ rest _ (must {ts = ts} {e = e} l z d k) = (fronts (At level.Arrow) (l ∷ ts) (z ∷ rest) e d).no_brace
 
@@ -232,7 +259,7 @@ items_complete room s ts _ _ no_items z rest at i fits before fuel enough =
 items_complete room s ts end _ (item {more = more} {i = x} {is = xs} here later) z rest at i fits before fuel enough =
     let less : length more < length ts = item_shrinks s ts more x here in
     first_turn (item_turn room s) fuel before (before ++ x ∷ []) ts more (Ok (before ++ x ∷ xs, rest)) (item_reads room s before ts more x (item_front s ts more x here) (item_complete room s ts more x here fits)) enough less
-    (λ left wide. items_complete room s more end xs later z rest at i (omega arith) (before ++ x ∷ []) left wide ∙ ap (λ (y : List Item). Ok (y, rest)) (append_assoc before (x ∷ []) xs))
+    (λ left larger. items_complete room s more end xs later z rest at i (omega arith) (before ++ x ∷ []) left larger ∙ ap (λ (y : List Item). Ok (y, rest)) (append_assoc before (x ∷ []) xs))
 
 pub items_shrink : (s : Section) (ts rest : List Lexeme) (xs : List Item) → DerivesItems s ts rest xs → length rest ≤ length ts
 items_shrink s ts _ _ no_items = omega arith

@@ -19,3 +19,5 @@ pub mod ViableExpr
 pub mod ViableParts
 pub mod ViableSource
 pub mod OneFault
+pub mod Depths
+pub mod Worked

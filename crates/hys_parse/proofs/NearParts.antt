@@ -8,11 +8,11 @@ use Rattle.hys_ast.specs.declared.source.Section.{Section}
 use Rattle.hys_ast.specs.declared.source.Section.TheVariants as section
 use Rattle.hys_ast.specs.declared.source.Kind.{Kind}
 use Rattle.hys_ast.specs.Grammar.{has_bounds, kind_of, among}
-use Rattle.hys_ast.specs.Tree.{Decl}
+use Rattle.hys_ast.specs.Tree.{Tree, Decl}
 use Rattle.hys_parse.specs.declared.draft.Part.{Part}
 use Rattle.hys_parse.specs.declared.draft.Part.TheVariants as part
 use Rattle.hys_parse.specs.Reading.{◌>>=◌}
-use Rattle.hys_parse.specs.Sections.{has_value, bounded_at, valued_at, plain_at, decl_at, name_turn, kind_at, line_at, line_turn, ite_at, braced_at, choice_at, formula_at, shape_at, named_at, must_at, item_at, item_turn, Draft, declares, decls_at, items_at, block_at, section_in, section_at, section_turn, part_at, source_at}
+use Rattle.hys_parse.specs.Sections.{has_value, bounded_at, valued_at, plain_at, decl_at, name_turn, kind_at, line_at, line_turn, ite_at, braced_at, choice_at, formula_at, tolerance_at, guard_at, shape_at, named_at, must_at, item_at, item_turn, Draft, declares, decls_at, items_at, block_at, section_in, section_at, section_turn, part_at, source_at}
 use Rattle.hys_parse.proofs.Near.{Near, Both, Turned, then, first_then, then_last, ok, either, by_first, Ahead, Peeks, ahead, chosen}
 use Rattle.hys_parse.proofs.NearTurns.{then_turn, first_turn, ok_turn, ok_last, chosen_turn, looked_turn, either_turn, stop_turn, raise_turn, Turning, all_near}
 use Rattle.hys_parse.proofs.NearExpr.{expects, takes, after_ahead, Alike, expr_near}
@@ -99,7 +99,18 @@ formula_near : {n m : ℕ} (one two : ℕ) → Rooms n m one two → Alike n m o
 unfolding formula_at
 formula_near one two wide ls ts fits near = then _ _ (expr_near one two wide ls ts fits near) (λ e r u le close. ok close)
 
+tolerance_near : {n m : ℕ} (one two : ℕ) → Rooms n m one two → (a : Tree) → Alike n m one (tolerance_at one a) (tolerance_at two a)
+unfolding tolerance_at
+tolerance_near one two wide a ls ts fits near = then _ _ (expr_near one two wide ls ts fits near) (λ e r u le close. then _ _ (takes (token.Sign sign.CLOSE_BRACKET) r u close) (λ z r2 u2 le2 close2. ok close2))
+
+guard_near : {n m : ℕ} (one two : ℕ) → Rooms n m one two → Alike n m one (guard_at one) (guard_at two)
+unfolding guard_at
+guard_near one two wide ls ts fits near =
+    then _ _ (expr_near one two wide ls ts fits near) (λ e r u le close.
+    chosen _ _ (after_ahead (token.Sign sign.OPEN_BRACKET) r u close) (ok close) (λ i r2 u2 less close2. tolerance_near one two wide e r2 u2 (omega arith) close2))
+
 shape_near : {n m : ℕ} (one two : ℕ) → Rooms n m one two → (s : Section) → Alike n m one (shape_at one s) (shape_at two s)
+shape_near one two wide section.Ad = guard_near one two wide
 shape_near one two wide section.Da = choice_near one two wide
 shape_near one two wide _ = formula_near one two wide
 

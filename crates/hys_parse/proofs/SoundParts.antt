@@ -8,11 +8,11 @@ use Rattle.hys_ast.specs.declared.lexeme.Lexeme.{Lexeme}
 use Rattle.hys_ast.specs.declared.source.Section.{Section}
 use Rattle.hys_ast.specs.declared.source.Section.TheVariants as section
 use Rattle.hys_ast.specs.declared.source.Kind.{Kind}
-use Rattle.hys_ast.specs.Grammar.{Is, DerivesExpr, has_bounds, kind_of, DerivesDecl, plain, bounded, valued, DerivesNames, last, further, DerivesDecls, no_decls, line, DerivesIte, short, long, DerivesChoice, bare, braced, has_formulas, DerivesItem, formula, choice, must, DerivesItems, no_items, item}
+use Rattle.hys_ast.specs.Grammar.{Is, DerivesExpr, has_bounds, kind_of, DerivesDecl, plain, bounded, valued, DerivesNames, last, further, DerivesDecls, no_decls, line, DerivesIte, short, long, DerivesChoice, bare, braced, DerivesGuard, narrow, wide, has_formulas, DerivesItem, formula, guard, choice, must, DerivesItems, no_items, item}
 use Rattle.hys_ast.specs.Tree.{Tree, Decl, Shape, Item, Source}
 use Rattle.hys_ast.specs.Tree as tree
 use Rattle.hys_parse.specs.Reading.{choose, after}
-use Rattle.hys_parse.specs.Sections.{expr_at, turns, all_turns, decl_with, has_value, bounded_at, valued_at, plain_at, decl_at, name_turn, kind_at, line_at, line_turn, ite_at, braced_at, choice_at, formula_at, shape_at, named_at, must_at, item_at, item_turn, declares}
+use Rattle.hys_parse.specs.Sections.{expr_at, turns, all_turns, decl_with, has_value, bounded_at, valued_at, plain_at, decl_at, name_turn, kind_at, line_at, line_turn, ite_at, braced_at, choice_at, formula_at, tolerance_at, guard_at, shape_at, named_at, must_at, item_at, item_turn, declares}
 use Rattle.hys_parse.proofs.Steps.{bind_ok, ok_is, choose_is, cond_is, if_true, if_false, expect_then, after_then}
 use Rattle.hys_parse.proofs.Sound.{expr_sound}
 
@@ -232,6 +232,32 @@ choice_sound room ts p e = elim (choose_is (after (token.Sign sign.OPEN_BRACE) t
       braced_is o.0 z.first ts w.0 x.0.1 z.rest x.0.0 p o.1 o.2 (ite_sound room w.0 x.0 x.1) z.is z.kind (ok_is (x.0.0, z.rest) p z.next)
 ]
 
+-- guards
+
+wide_is : (o c : Lexeme) (ts m1 next m2 rest : List Lexeme) (a b : Tree) (p : Shape × List Lexeme) → DerivesExpr ts m1 a → m1 ≡ o ∷ next → Is (token.Sign sign.OPEN_BRACKET) o → DerivesExpr next m2 b → m2 ≡ c ∷ rest → Is (token.Sign sign.CLOSE_BRACKET) c →
+    (tree.Wide a b, rest) ≡ p → DerivesGuard ts p.1 p.0
+wide_is o c ts m1 next m2 rest a b p d e1 k1 f e2 k2 q =
+    let P : List Lexeme → Type 0 = λ x. DerivesExpr ts x a in
+    let Q : List Lexeme → Type 0 = λ x. DerivesExpr next x b in
+    rw (← q) (wide o c (subst P e1 d) k1 (subst Q e2 f) k2)
+
+narrow_is : (ts rest : List Lexeme) (e : Tree) (p : Shape × List Lexeme) → DerivesExpr ts rest e → (tree.Plain e, rest) ≡ p → DerivesGuard ts p.1 p.0
+narrow_is ts rest e p d q = rw (← q) (narrow d)
+
+guard_sound : (room : ℕ) (ts : List Lexeme) (p : Shape × List Lexeme) → guard_at room ts ≡ Ok p → DerivesGuard ts p.1 p.0
+unfolding guard_at tolerance_at
+guard_sound room ts p e =
+    let a = bind_ok (expr_at room ts) _ p e in
+    let d = expr_sound room ts a.0 a.1 in
+    elim (choose_is (after (token.Sign sign.OPEN_BRACKET) a.0.1) _ _ _ a.2) [
+      | inl w ↦ narrow_is ts a.0.1 a.0.0 p d (ok_is (tree.Plain a.0.0, a.0.1) p w.1)
+      | inr w ↦
+          let o = after_then (token.Sign sign.OPEN_BRACKET) a.0.1 w.0 w.1 in
+          let b = bind_ok (expr_at room w.0) _ p w.2 in
+          let c = expect_then (token.Sign sign.CLOSE_BRACKET) b.0.1 _ p b.2 in
+          wide_is o.0 c.first ts a.0.1 w.0 b.0.1 c.rest a.0.0 b.0.0 p d o.1 o.2 (expr_sound room w.0 b.0 b.1) c.is c.kind (ok_is (tree.Wide a.0.0 b.0.0, c.rest) p c.next)
+    ]
+
 -- items
 
 formula_is : (s : Section) (l q z : Lexeme) (ts m1 next past rest : List Lexeme) (e : Tree) (p : Item × List Lexeme) → has_formulas s ≡ true → ts ≡ l ∷ m1 → Is token.Name l → m1 ≡ q ∷ next → Is (token.Sign sign.EQUALS) q → DerivesExpr next past e → past ≡ z ∷ rest → Is (token.Sign sign.SEMICOLON) z →
@@ -241,6 +267,10 @@ formula_is s l q z ts m1 next past rest e p h e1 k1 e2 k2 d e3 k3 r = let P : Li
 choice_is : (l q z : Lexeme) (ts m1 next past rest : List Lexeme) (x : Shape) (p : Item × List Lexeme) → ts ≡ l ∷ m1 → Is token.Name l → m1 ≡ q ∷ next → Is (token.Sign sign.EQUALS) q → DerivesChoice next past x → past ≡ z ∷ rest → Is (token.Sign sign.SEMICOLON) z →
     (record { section = section.Da; name = Some l.text; place = l.place; shape = x }, rest) ≡ p → DerivesItem section.Da ts p.1 p.0
 choice_is l q z ts m1 next past rest x p e1 k1 e2 k2 d e3 k3 r = let P : List Lexeme → Type 0 = λ y. DerivesChoice next y x in rw (← r, e1, e2) (choice l q z k1 k2 (subst P e3 d) k3)
+
+guard_is : (l q z : Lexeme) (ts m1 next past rest : List Lexeme) (x : Shape) (p : Item × List Lexeme) → ts ≡ l ∷ m1 → Is token.Name l → m1 ≡ q ∷ next → Is (token.Sign sign.EQUALS) q → DerivesGuard next past x → past ≡ z ∷ rest → Is (token.Sign sign.SEMICOLON) z →
+    (record { section = section.Ad; name = Some l.text; place = l.place; shape = x }, rest) ≡ p → DerivesItem section.Ad ts p.1 p.0
+guard_is l q z ts m1 next past rest x p e1 k1 e2 k2 d e3 k3 r = let P : List Lexeme → Type 0 = λ y. DerivesGuard next y x in rw (← r, e1, e2) (guard l q z k1 k2 (subst P e3 d) k3)
 
 must_is : (l z : Lexeme) (ts past rest : List Lexeme) (e : Tree) (p : Item × List Lexeme) → DerivesExpr (l ∷ ts) past e → past ≡ z ∷ rest → Is (token.Sign sign.SEMICOLON) z → (record { section = section.Must; name = None; place = l.place; shape = tree.Plain e }, rest) ≡ p →
     DerivesItem section.Must (l ∷ ts) p.1 p.0
@@ -268,6 +298,16 @@ named_choice_sound room ts p e =
     choice_is l.first q.first z.first ts l.rest q.rest x.0.1 z.rest x.0.0 p l.is l.kind q.is q.kind (choice_sound room q.rest x.0 x.1) z.is z.kind
     (ok_is (record { section = section.Da; name = Some l.first.text; place = l.first.place; shape = x.0.0 }, z.rest) p z.next)
 
+named_guard_sound : (room : ℕ) (ts : List Lexeme) (p : Item × List Lexeme) → named_at room section.Ad ts ≡ Ok p → DerivesItem section.Ad ts p.1 p.0
+unfolding named_at
+named_guard_sound room ts p e =
+    let l = expect_then token.Name ts _ p e in
+    let q = expect_then (token.Sign sign.EQUALS) l.rest _ p l.next in
+    let x = bind_ok (guard_at room q.rest) _ p q.next in
+    let z = expect_then (token.Sign sign.SEMICOLON) x.0.1 _ p x.2 in
+    guard_is l.first q.first z.first ts l.rest q.rest x.0.1 z.rest x.0.0 p l.is l.kind q.is q.kind (guard_sound room q.rest x.0 x.1) z.is z.kind
+    (ok_is (record { section = section.Ad; name = Some l.first.text; place = l.first.place; shape = x.0.0 }, z.rest) p z.next)
+
 must_sound : (room : ℕ) (ts : List Lexeme) (p : Item × List Lexeme) → must_at room ts ≡ Ok p → DerivesItem section.Must ts p.1 p.0
 unfolding must_at
 must_sound room [] p e = absurd cc
@@ -279,7 +319,7 @@ must_sound room (l ∷ ts) p e =
 item_sound : (room : ℕ) (s : Section) (ts : List Lexeme) (p : Item × List Lexeme) → declares s ≡ false → item_at room s ts ≡ Ok p → DerivesItem s ts p.1 p.0
 item_sound room section.Must ts p h e = must_sound room ts p e
 item_sound room section.Da ts p h e = named_choice_sound room ts p e
-item_sound room section.Ad ts p h e = named_formula_sound room section.Ad ts p refl (λ us. refl) e
+item_sound room section.Ad ts p h e = named_guard_sound room ts p e
 item_sound room section.Logic ts p h e = named_formula_sound room section.Logic ts p refl (λ us. refl) e
 item_sound room section.Linear ts p h e = named_formula_sound room section.Linear ts p refl (λ us. refl) e
 item_sound room section.Automata ts p h e = named_formula_sound room section.Automata ts p refl (λ us. refl) e

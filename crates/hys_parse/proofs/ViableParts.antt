@@ -9,11 +9,11 @@ use Rattle.hys_ast.specs.declared.level.Level.TheVariants as level
 use Rattle.hys_ast.specs.declared.source.Section.{Section}
 use Rattle.hys_ast.specs.declared.source.Section.TheVariants as section
 use Rattle.hys_ast.specs.declared.source.Kind.{Kind}
-use Rattle.hys_ast.specs.Grammar.{Symbol, At, Behind, Negation, Signed, Atom, operand, Is, Derives, chain, alone, pair, ended, joined as add, negated, compared, signed, unsigned, literal, name, truth, cast, group, DerivesExpr, has_bounds, kind_of, DerivesDecl, plain, bounded, valued, DerivesNames, last, further, DerivesDecls, no_decls, line, DerivesIte, short, long, DerivesChoice, bare, braced, has_formulas, DerivesItem, formula, choice, must, DerivesItems, no_items, item}
+use Rattle.hys_ast.specs.Grammar.{Symbol, At, Behind, Negation, Signed, Atom, operand, Is, Derives, chain, alone, pair, ended, joined as add, negated, compared, signed, unsigned, literal, name, truth, cast, group, DerivesExpr, has_bounds, kind_of, DerivesDecl, plain, bounded, valued, DerivesNames, last, further, DerivesDecls, no_decls, line, DerivesIte, short, long, DerivesChoice, bare, braced, DerivesGuard, narrow, wide, has_formulas, DerivesItem, formula, guard, choice, must, DerivesItems, no_items, item}
 use Rattle.hys_ast.specs.Tree.{Tree, Decl, Shape, Item, Source}
 use Rattle.hys_ast.specs.Tree as tree
 use Rattle.hys_parse.specs.Reading.{choose, after}
-use Rattle.hys_parse.specs.Sections.{all_turns, decl_with, has_value, bounded_at, valued_at, plain_at, decl_at, name_turn, kind_at, line_at, line_turn, ite_at, braced_at, choice_at, formula_at, shape_at, named_at, must_at, item_at, item_turn, declares}
+use Rattle.hys_parse.specs.Sections.{all_turns, decl_with, has_value, bounded_at, valued_at, plain_at, decl_at, name_turn, kind_at, line_at, line_turn, ite_at, braced_at, choice_at, formula_at, tolerance_at, guard_at, shape_at, named_at, must_at, item_at, item_turn, declares}
 use Rattle.hys_parse.proofs.Viable.{nothing, one, joined, Viable, Some_are, at_once, answers, mapped, next, sample, next_is, maybe_is, ViableTurn, answers_turn, behind_turn, next_turn, next_turn_is, maybe_turn, Leads, all_viable}
 use Rattle.hys_parse.proofs.ViableExpr.{a_name, its_tree, level_name, expr_viable}
 
@@ -104,6 +104,16 @@ choice_viable : (room : ℕ) (ls : List Lexeme) → Viable DerivesChoice ls (cho
 unfolding choice_at
 choice_viable room ls = maybe_is (token.Sign sign.OPEN_BRACE) ls _ _ (mapped (λ ts rest x d. bare d) (ite_viable room ls)) (λ o us i. braced_viable room o us i)
 
+-- guards
+
+guard_viable : (room : ℕ) (ls : List Lexeme) → Viable DerivesGuard ls (guard_at room ls)
+unfolding guard_at tolerance_at
+guard_viable room ls =
+    next {C = DerivesExpr} _ (expr_viable room ls) (λ a f us d.
+    maybe_is (token.Sign sign.OPEN_BRACKET) us _ _ (answers us (λ b. narrow (d b))) (λ o vs i.
+    next {C = DerivesExpr} _ (expr_viable room vs) (λ t g ws e.
+    next_is (token.Sign sign.CLOSE_BRACKET) ws _ (λ z xs j. answers xs (λ b. wide o z (d (o ∷ g.put (z ∷ b))) i (e (z ∷ b)) j)))))
+
 -- items
 
 abbrev An_item : Section → List Lexeme → List Lexeme → Item → Type 0
@@ -132,6 +142,9 @@ formula_item s h l q z ts rest x i j d k = (record { section = s; name = Some l.
 
 choice_item : (l q z : Lexeme) (ts rest : List Lexeme) (x : Shape) → Is token.Name l → Is (token.Sign sign.EQUALS) q → DerivesChoice ts (z ∷ rest) x → Is (token.Sign sign.SEMICOLON) z → (y : Item) × DerivesItem section.Da (l ∷ q ∷ ts) rest y
 choice_item l q z ts rest x i j d k = (record { section = section.Da; name = Some l.text; place = l.place; shape = x }, choice l q z i j d k)
+
+guard_item : (l q z : Lexeme) (ts rest : List Lexeme) (x : Shape) → Is token.Name l → Is (token.Sign sign.EQUALS) q → DerivesGuard ts (z ∷ rest) x → Is (token.Sign sign.SEMICOLON) z → (y : Item) × DerivesItem section.Ad (l ∷ q ∷ ts) rest y
+guard_item l q z ts rest x i j d k = (record { section = section.Ad; name = Some l.text; place = l.place; shape = x }, guard l q z i j d k)
 
 -- An expression has a first lexeme.
 abbrev Begun : Symbol → List Lexeme → Type 0
@@ -183,7 +196,7 @@ must_viable room (l ∷ us) = next {C = DerivesExpr} _ (expr_viable room (l ∷ 
 item_viable : (room : ℕ) (s : Section) → declares s ≡ false → (ls : List Lexeme) → Viable (An_item s) ls (item_at room s ls)
 item_viable room section.Must h ls = must_viable room ls
 item_viable room section.Da h ls = named_viable room section.Da DerivesChoice (choice_viable room) choice_item ls
-item_viable room section.Ad h ls = named_viable room section.Ad A_formula (formula_viable room) (formula_item section.Ad refl) ls
+item_viable room section.Ad h ls = named_viable room section.Ad DerivesGuard (guard_viable room) guard_item ls
 item_viable room section.Logic h ls = named_viable room section.Logic A_formula (formula_viable room) (formula_item section.Logic refl) ls
 item_viable room section.Linear h ls = named_viable room section.Linear A_formula (formula_viable room) (formula_item section.Linear refl) ls
 item_viable room section.Automata h ls = named_viable room section.Automata A_formula (formula_viable room) (formula_item section.Automata refl) ls

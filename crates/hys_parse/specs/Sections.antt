@@ -103,7 +103,19 @@ choice_at room ts = choose (after (token.Sign sign.OPEN_BRACE) ts) (ite_at room 
 unfoldable pub formula_at : ℕ → List Lexeme → Read Shape
 formula_at room ts = expr_at room ts >>= λ e. Ok (tree.Plain e.0, e.1)
 
+unfoldable pub tolerance_at : ℕ → Tree → List Lexeme → Read Shape
+tolerance_at room comparison ts = do
+  e ← expr_at room ts
+  end ← expect (token.Sign sign.CLOSE_BRACKET) e.1
+  Ok (tree.Wide comparison e.0, end.1)
+
+unfoldable pub guard_at : ℕ → List Lexeme → Read Shape
+guard_at room ts = do
+  e ← expr_at room ts
+  choose (after (token.Sign sign.OPEN_BRACKET) e.1) (Ok (tree.Plain e.0, e.1)) (tolerance_at room e.0)
+
 abbrev pub shape_at : ℕ → Section → List Lexeme → Read Shape
+shape_at room section.Ad ts = guard_at room ts
 shape_at room section.Da ts = choice_at room ts
 shape_at room _ ts = formula_at room ts
 

@@ -6,6 +6,7 @@ ghost use Rattle.hys_parse.specs.Reading.{Gives, Finds};
 ghost use Rattle.hys_ast.specs.Grammar as grammar;
 ghost use Rattle.hys_parse.specs.Sections as reading;
 
+use crate::repeat::all_turns;
 use crate::ahead::{after, expect, split};
 use crate::descent::expression;
 use crate::stop::Stop;
@@ -164,20 +165,7 @@ fn names(
     ensures gives { Gives (λ p. (map decl_of p.0.items, p.1.now)) result (reading.all_turns (reading.name_turn room section kind) (map decl_of decls.items) tokens.now) }
     ensures shorter { IfOk result (λ p. length p.1.now < length tokens.now) }
 {
-    let mut held = decls;
-    let mut rest = tokens;
-    loop {
-        match name_turn(alloc, room, section, kind, held, rest) {
-            Err(stop) => return Err(stop),
-            Ok((found, more, next)) => {
-                if !more {
-                    return Ok((found, next));
-                }
-                held = found;
-                rest = next;
-            }
-        }
-    }
+    all_turns!(name_turn(alloc, room, section, kind), decls, tokens)
 }
 
 fn kind_of(kind: TokenKind) -> Option<Kind>
@@ -247,18 +235,5 @@ pub fn declarations(
     ensures gives { Gives (λ p. (map decl_of p.0.items, p.1.now)) result (reading.all_turns (reading.line_turn room section) (map decl_of decls.items) tokens.now) }
     ensures shorter { IfOk result (λ p. length p.1.now ≤ length tokens.now) }
 {
-    let mut held = decls;
-    let mut rest = tokens;
-    loop {
-        match line_turn(alloc, room, section, held, rest) {
-            Err(stop) => return Err(stop),
-            Ok((found, more, next)) => {
-                if !more {
-                    return Ok((found, next));
-                }
-                held = found;
-                rest = next;
-            }
-        }
-    }
+    all_turns!(line_turn(alloc, room, section), decls, tokens)
 }

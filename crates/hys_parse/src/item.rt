@@ -1,14 +1,15 @@
 //! Items and choices.
 
 ghost use Rattle.std.specs.Prelude.{◌≡◌, List, length, map, IfOk, IsTrue, ◌<◌, ◌≤◌};
-ghost use Rattle.hys_ast.specs.Seen.{shape_of, item_of};
+ghost use Rattle.hys_ast.specs.Seen.{tree_of, shape_of, item_of};
 ghost use Rattle.hys_parse.specs.Reading.{Gives};
 ghost use Rattle.hys_parse.specs.Sections as reading;
 
+use crate::repeat::all_turns;
 use crate::ahead::{after, expect, split};
 use crate::descent::expression;
 use crate::stop::Stop;
-use hys_ast::{Item, Lexeme, Section, Shape};
+use hys_ast::{Expr, Item, Lexeme, Section, Shape};
 use hys_lex::{TokenKind, keyword, sign};
 use std::alloc::Global;
 
@@ -60,6 +61,34 @@ fn formula(alloc: Global, room: usize, tokens: &[Lexeme]) -> Result<(Shape, &[Le
     Ok((Shape::Plain(whole), rest))
 }
 
+// Behind a comparison and `[`.
+#[tactic(auto, unfolding(crate::specs::Sections::tolerance_at))]
+fn tolerance(
+    alloc: Global,
+    room: usize,
+    comparison: Expr,
+    tokens: &[Lexeme],
+) -> Result<(Shape, &[Lexeme]), Stop>
+    ensures gives { Gives (λ p. (shape_of p.0, p.1.now)) result (reading.tolerance_at room (tree_of comparison) tokens.now) }
+    ensures shorter { IfOk result (λ p. length p.1.now < length tokens.now) }
+{
+    let (whole, rest) = expression(alloc, room, tokens)?;
+    let (_, rest) = expect(TokenKind::Sign(sign::CLOSE_BRACKET), rest)?;
+    Ok((Shape::Wide(comparison, whole), rest))
+}
+
+#[tactic(auto, unfolding(crate::specs::Sections::guard_at))]
+fn guard(alloc: Global, room: usize, tokens: &[Lexeme]) -> Result<(Shape, &[Lexeme]), Stop>
+    ensures gives { Gives (λ p. (shape_of p.0, p.1.now)) result (reading.guard_at room tokens.now) }
+    ensures shorter { IfOk result (λ p. length p.1.now < length tokens.now) }
+{
+    let (comparison, rest) = expression(alloc, room, tokens)?;
+    match after(TokenKind::Sign(sign::OPEN_BRACKET), rest) {
+        None => Ok((Shape::Plain(comparison), rest)),
+        Some(next) => tolerance(alloc, room, comparison, next),
+    }
+}
+
 // The right side of a named item.
 fn shape(
     alloc: Global,
@@ -71,6 +100,7 @@ fn shape(
     ensures shorter { IfOk result (λ p. length p.1.now < length tokens.now) }
 {
     match section {
+        Section::Ad => guard(alloc, room, tokens),
         Section::Da => choice(alloc, room, tokens),
         _ => formula(alloc, room, tokens),
     }
@@ -166,18 +196,5 @@ pub fn items(
     ensures gives { Gives (λ p. (map item_of p.0.items, p.1.now)) result (reading.all_turns (reading.item_turn room section) (map item_of items.items) tokens.now) }
     ensures shorter { IfOk result (λ p. length p.1.now < length tokens.now) }
 {
-    let mut held = items;
-    let mut rest = tokens;
-    loop {
-        match item_turn(alloc, room, section, held, rest) {
-            Err(stop) => return Err(stop),
-            Ok((found, more, next)) => {
-                if !more {
-                    return Ok((found, next));
-                }
-                held = found;
-                rest = next;
-            }
-        }
-    }
+    all_turns!(item_turn(alloc, room, section), items, tokens)
 }

@@ -1,9 +1,10 @@
 //! What holds of the trees of tokens and of their faults, as calls that do nothing.
 
-ghost use Rattle.std.specs.Prelude.{◌≡◌, ℕ, List};
+ghost use Rattle.std.specs.Prelude.{◌≡◌, ◌↔◌, ◌⊎◌, ℕ, List};
 ghost use Rattle.hys_lex.specs.declared.token.Token.{Token};
 ghost use Rattle.hys_ast.specs.Tree.{Source as Tree};
 ghost use Rattle.hys_ast.specs.Grammar.{IsTreeOf};
+ghost use Rattle.hys_parse.specs.Depth.{depth, IsDepth, IsShallow};
 ghost use Rattle.hys_parse.specs.Cause.{IsUngrammatical};
 
 /// At most one tree derives the tokens of a text.
@@ -15,4 +16,14 @@ pub fn one_tree()
 pub fn one_fault()
     ensures apart { (text : List ℕ) (tokens : List Token) (k : ℕ) (tree : Tree) → IsUngrammatical text tokens k → IsTreeOf text tokens tree → ⊥ }
     ensures one { (text : List ℕ) (tokens : List Token) (j k : ℕ) → IsUngrammatical text tokens j → IsUngrammatical text tokens k → j ≡ k }
+{}
+
+/// Tokens none of which is deep have a tree or a syntax fault: with the law above, exactly one of the two.
+pub fn tree_or_fault()
+    ensures { (text : List ℕ) (tokens : List Token) → IsShallow tokens → ((tree : Tree) × IsTreeOf text tokens tree) ⊎ ((k : ℕ) × IsUngrammatical text tokens k) }
+{}
+
+/// The depth that is counted from token to token is what depth is.
+pub fn depth_counted()
+    ensures { (tokens : List Token) (k d : ℕ) → IsDepth tokens k d ↔ (d ≡ depth tokens k) }
 {}

@@ -6,11 +6,13 @@ mod declaration;
 mod deep;
 mod descent;
 mod draft;
+pub mod examples;
 mod item;
 pub mod laws;
 mod parser;
 #[cfg(test)]
 mod print_tests;
+mod repeat;
 mod section;
 mod stop;
 #[cfg(test)]

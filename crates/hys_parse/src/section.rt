@@ -7,13 +7,14 @@ ghost use Rattle.hys_parse.specs.Reading.{Gives, Finds};
 ghost use Rattle.hys_parse.specs.declared.stop.Stop.TheVariants.{Memory};
 ghost use Rattle.hys_parse.specs.Sections as reading;
 
+use crate::repeat::all_turns;
 use crate::ahead::{expect, split};
 use crate::declaration::declarations;
 use crate::draft::{Draft, Part};
 use crate::item::items;
 use crate::stop::Stop;
 use hys_ast::{Decl, Lexeme, Section, Source};
-use hys_frac::List;
+use hys_base::List;
 use hys_lex::{TokenKind, keyword, sign};
 use std::alloc::Global;
 
@@ -198,20 +199,7 @@ fn sections(
     ensures gives { Gives (λ p. (reading.draft_of p.0, p.1.now)) result (reading.all_turns (reading.section_turn room part) (reading.draft_of draft) tokens.now) }
     ensures shorter { IfOk result (λ p. length p.1.now ≤ length tokens.now) }
 {
-    let mut held = draft;
-    let mut rest = tokens;
-    loop {
-        match section_turn(alloc, room, part, held, rest) {
-            Err(stop) => return Err(stop),
-            Ok((found, more, next)) => {
-                if !more {
-                    return Ok((found, next));
-                }
-                held = found;
-                rest = next;
-            }
-        }
-    }
+    all_turns!(section_turn(alloc, room, part), draft, tokens)
 }
 
 // A part with its braces, behind the declarations that stood before it.

@@ -7,7 +7,7 @@ use Rattle.hys_number.proofs.Field.{add_comm, add_assoc}
 use Rattle.hys_lin.specs.Sums.{sum_of, at, value as value_of}
 use Rattle.hys_lin.specs.declared.form.Affine.{Affine}
 use Rattle.hys_ast.specs.Tree.{Tree}
-use Rattle.hys_ast.specs.Values.{Assignment, value}
+use Rattle.hys_meaning.specs.Values.{Assignment, value}
 use Rattle.hys_plain.specs.Plain.{is_sum, names_in}
 use Rattle.hys_plain.specs.Sums.{coefficient, spread, term_of, StandOnce}
 use Rattle.hys_plain.proofs.Linear.{sum_value}

@@ -8,9 +8,9 @@ use Rattle.hys_ast.specs.declared.source.Kind.{Kind}
 use Rattle.hys_ast.specs.declared.source.Kind.TheVariants as kind
 use Rattle.hys_ast.specs.Tree.{Tree, Decl}
 use Rattle.hys_ast.specs.Tree as tree
-use Rattle.hys_ast.specs.Values.{Assignment, value, signed}
-use Rattle.hys_ast.specs.Names.{is_state, is_input, end_of}
-use Rattle.hys_ast.specs.Typed.{is_real, has_box, IsBox}
+use Rattle.hys_meaning.specs.Values.{Assignment, value, signed}
+use Rattle.hys_meaning.specs.Names.{is_state, is_input, end_of}
+use Rattle.hys_meaning.specs.Typed.{is_real, has_box, IsBox}
 use Rattle.hys_plain.specs.Plain.{is_minus, is_literal, is_signed_literal, is_end, is_plain_decl}
 use Rattle.hys_plain.specs.Sums.{number_in}
 use Rattle.hys_plain.specs.Tests.{IsBoxed}

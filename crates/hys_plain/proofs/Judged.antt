@@ -11,9 +11,9 @@ use Rattle.hys_ast.specs.declared.source.Section.{Section}
 use Rattle.hys_ast.specs.declared.source.Section.TheVariants as section
 use Rattle.hys_ast.specs.Seen.{decl_of, item_of}
 use Rattle.hys_ast.specs.Tree.{Decl, Item, Source}
-use Rattle.hys_ast.specs.Values.{Assignment}
-use Rattle.hys_ast.specs.Names.{Name, name_of, parameters, look, is_state}
-use Rattle.hys_ast.specs.Typed.{differ, has_box, IsBox, is_left, is_real, LeftTyped}
+use Rattle.hys_meaning.specs.Values.{Assignment}
+use Rattle.hys_meaning.specs.Names.{Name, name_of, parameters, look, is_state}
+use Rattle.hys_meaning.specs.Typed.{differ, has_box, IsBox, is_left, is_real, LeftTyped}
 use Rattle.hys_plain.specs.Plain.{IsPlain, is_plain_kind, is_plain_decl, is_continuous, is_plain_shape, is_plain_item}
 use Rattle.hys_plain.specs.Tests.{texts_of, IsBoxed, has_state, is_item, IsDefined}
 use Rattle.hys_plain.specs.Built.{IsPlainTree}
@@ -53,7 +53,7 @@ left_typed w ds section.OutputItem n h k = absurd (grind arith)
 left_typed w ds section.Must n h k = absurd (grind arith)
 
 typed_left : (w : Assignment) (ds : List Decl) (s : Section) (n : Option (List ℕ)) → is_continuous s ≡ true → LeftTyped s (map (name_of w) ds) n → has_state ds n ≡ true
-typed_left w ds section.Continuous None h k = absurd k
+typed_left w ds section.Continuous None h k = absurd (grind arith)
 typed_left w ds section.Continuous (Some n) h k = same_state (λ m. whole 0) w ds n ∙ k
 typed_left w ds section.State n h k = absurd (grind arith)
 typed_left w ds section.Input n h k = absurd (grind arith)

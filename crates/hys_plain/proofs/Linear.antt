@@ -12,7 +12,7 @@ use Rattle.hys_ast.specs.declared.tree.UnaryOp.{UnaryOp}
 use Rattle.hys_ast.specs.declared.tree.UnaryOp.TheVariants as unary
 use Rattle.hys_ast.specs.Tree.{Tree}
 use Rattle.hys_ast.specs.Tree as tree
-use Rattle.hys_ast.specs.Values.{Assignment, value, signed, computed}
+use Rattle.hys_meaning.specs.Values.{Assignment, value, signed, computed}
 use Rattle.hys_plain.specs.Plain.{is_minus, is_times, is_plus_or_minus, is_literal, is_name, is_signed_literal, names_in, is_sum, is_part, is_first_part}
 use Rattle.hys_plain.specs.Sums.{Key, key_in, is_key, named, number_in, part_coefficient, coefficient, spread, term_of, StandOnce}
 use Rattle.hys_plain.proofs.Shapes.{first_of, second_of, part_first}

@@ -15,7 +15,7 @@ use Rattle.hys_number.specs.Ops.{whole}
 use Rattle.hys_frac.specs.Read.{literal_value}
 use Rattle.hys_frac.proofs.Numerals.{power_grows}
 use Rattle.hys_lex.specs.Bytes.{is_digit}
-use Rattle.hys_ast.specs.Values.{literal}
+use Rattle.hys_meaning.specs.Values.{literal}
 use Rattle.hys_plain.specs.Plain.{is_short}
 
 in_range : (c : ℕ) → is_digit c ≡ true → IsInRange 48 57 c

@@ -9,9 +9,9 @@ use Rattle.hys_plain.proofs.Names.{keyed}
 use Rattle.hys_ast.specs.Tree.{Tree}
 use Rattle.hys_ast.specs.declared.source.Decl.{Decl}
 use Rattle.hys_ast.specs.Seen.{decl_of}
-use Rattle.hys_ast.specs.Values.{Assignment}
-use Rattle.hys_ast.specs.Names.{name_of, look, is_state}
-use Rattle.hys_ast.specs.Typed.{differ, is_left, is_real}
+use Rattle.hys_meaning.specs.Values.{Assignment}
+use Rattle.hys_meaning.specs.Names.{name_of, look, is_state}
+use Rattle.hys_meaning.specs.Typed.{differ, is_left, is_real}
 
 pub look_here : (ds : List Decl) (d : Decl) (rest : List Decl) (n : List ℕ) (w : Assignment) → ds ≡ d ∷ rest → bytes_eq d.name n ≡ true → is_left is_state is_real (look (map (name_of w) (map decl_of ds)) n) ≡ (is_state d.section && is_real d.kind)
 look_here ds d rest n w e h = rw e (rw h refl)

@@ -7,7 +7,7 @@ use Rattle.hys_ast.specs.declared.tree.BinaryOp.{BinaryOp}
 use Rattle.hys_ast.specs.declared.tree.BinaryOp.TheVariants as binary
 use Rattle.hys_ast.specs.Tree.{Tree}
 use Rattle.hys_ast.specs.Tree as tree
-use Rattle.hys_ast.specs.Typed.{differ}
+use Rattle.hys_meaning.specs.Typed.{differ}
 use Rattle.hys_plain.specs.Plain.{is_times, is_plus_or_minus, is_name, is_signed_literal, names_in, lone_literals, is_sum, is_part, is_first_part, is_right_side}
 use Rattle.hys_plain.specs.Sums.{key_in, is_key, part_mentions, mentions}
 use Rattle.hys_plain.proofs.Shapes.{first_of, second_of, unsigned, part_first}

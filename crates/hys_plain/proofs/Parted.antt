@@ -13,10 +13,10 @@ use Rattle.hys_ast.specs.declared.source.Section.{Section}
 use Rattle.hys_ast.specs.declared.source.Section.TheVariants as section
 use Rattle.hys_ast.specs.Tree.{Tree, Decl, Item, Shape, Source}
 use Rattle.hys_ast.specs.Tree as tree
-use Rattle.hys_ast.specs.Values.{Assignment}
-use Rattle.hys_ast.specs.Names.{Name, name_of, names, parameters, texts, is_state, is_input, is_output, is_auxiliary}
-use Rattle.hys_ast.specs.Typed.{differ, defines, is_real}
-use Rattle.hys_ast.specs.Circular.{SomeItem}
+use Rattle.hys_meaning.specs.Values.{Assignment}
+use Rattle.hys_meaning.specs.Names.{Name, name_of, names, parameters, texts, is_state, is_input, is_output, is_auxiliary}
+use Rattle.hys_meaning.specs.Typed.{differ, defines, is_real}
+use Rattle.hys_meaning.specs.Circular.{SomeItem}
 use Rattle.hys_lin.specs.declared.form.Affine.{Affine}
 use Rattle.hys_plain.proofs.Ends.{plain_but_value}
 use Rattle.hys_plain.specs.Plain.{is_plain_decl, is_plain_item, is_plain_shape, is_continuous, is_end, is_sum, is_right_side, names_in, lone_literals, declared_texts}
@@ -142,6 +142,7 @@ item_forms ns is h = all_more (λ i. IsTrue (is_plain_item ns i)) (λ i. IsTrue 
   where
     shaped : (r : Shape) → is_plain_shape ns r ≡ true → is_form r ≡ true
     shaped (tree.Plain e) k = refl
+    shaped (tree.Wide a b) k = absurd (grind arith)
     shaped (tree.Choice a b c) k = absurd (grind arith)
 
 pub right_of : (ns : List (List ℕ)) (n : List ℕ) (e : Tree) (is : List Item) → SomeItem (IsRightOf n e) is → AllByRecursion (λ i. IsTrue (is_plain_item ns i)) is → is_right_side ns e ≡ true

@@ -11,7 +11,7 @@ use Rattle.hys_ast.specs.declared.place.Place.{Place}
 use Rattle.hys_ast.specs.Nodes.{nodes}
 use Rattle.hys_ast.specs.Tree.{Tree}
 use Rattle.hys_ast.specs.Tree as tree
-use Rattle.hys_ast.specs.Values.{signed, computed}
+use Rattle.hys_meaning.specs.Values.{signed, computed}
 use Rattle.hys_plain.specs.Plain.{is_plus_or_minus, is_minus, is_times, is_literal, is_name, is_signed_literal, is_sum, is_part, is_first_part}
 use Rattle.hys_plain.specs.Sums.{IsJoined, is_joined}
 

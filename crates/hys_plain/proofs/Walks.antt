@@ -7,7 +7,7 @@ use Rattle.hys_ast.specs.declared.tree.BinaryOp.{BinaryOp}
 use Rattle.hys_ast.specs.declared.tree.BinaryOp.TheVariants as binary
 use Rattle.hys_ast.specs.Tree.{Tree}
 use Rattle.hys_ast.specs.Tree as tree
-use Rattle.hys_ast.specs.Values.{computed}
+use Rattle.hys_meaning.specs.Values.{computed}
 use Rattle.hys_plain.specs.Plain.{is_plus_or_minus, is_sum, is_part}
 use Rattle.hys_plain.specs.Sums.{IsJoined, is_joined, Key, key_in, is_key, number_in, part_coefficient, coefficient, part_mentions, mentions}
 use Rattle.hys_plain.proofs.Shapes.{joined_sum, first_of, second_of}

@@ -6,8 +6,8 @@ use Rattle.hys_number.specs.Ops.{whole}
 use Rattle.hys_ast.specs.declared.source.Section.{Section}
 use Rattle.hys_ast.specs.Tree.{Tree, Shape, Item, Source}
 use Rattle.hys_ast.specs.Tree as tree
-use Rattle.hys_ast.specs.Names.{Name, is_state, is_input}
-use Rattle.hys_ast.specs.Typed.{defines, DeclaredOnce, DefinedOnce}
+use Rattle.hys_meaning.specs.Names.{Name, is_state, is_input}
+use Rattle.hys_meaning.specs.Typed.{defines, DeclaredOnce, DefinedOnce}
 use Rattle.hys_plain.specs.declared.parts.Boxed.{Boxed}
 use Rattle.hys_plain.specs.Plain.{is_plain_decl, is_plain_item, declared_texts}
 use Rattle.hys_plain.specs.Meant.{boxed_of}
@@ -43,6 +43,7 @@ names_of bs = map (λ b. b.name) bs
 -- the right side is an expression
 abbrev pub is_form : Shape → Bool
 is_form (tree.Plain e) = true
+is_form (tree.Wide a b) = false
 is_form (tree.Choice a b c) = false
 
 -- the item defines the name, with this right side

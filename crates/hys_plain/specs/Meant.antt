@@ -6,10 +6,10 @@ use Rattle.hys_lin.specs.Over.{AreTermsOver}
 use Rattle.hys_lin.specs.declared.form.Affine.{Affine}
 use Rattle.hys_ast.specs.Tree.{Tree, Shape, Source}
 use Rattle.hys_ast.specs.Tree as tree
-use Rattle.hys_ast.specs.Values.{Assignment, value}
-use Rattle.hys_ast.specs.Names.{Name, names, texts, is_state, is_input}
-use Rattle.hys_ast.specs.Typed.{defines}
-use Rattle.hys_ast.specs.Circular.{SomeItem}
+use Rattle.hys_meaning.specs.Values.{Assignment, value}
+use Rattle.hys_meaning.specs.Names.{Name, names, texts, is_state, is_input}
+use Rattle.hys_meaning.specs.Typed.{defines}
+use Rattle.hys_meaning.specs.Circular.{SomeItem}
 use Rattle.hys_plain.specs.declared.parts.Boxed.{Boxed}
 use Rattle.hys_plain.specs.declared.parts.PlainParts.{PlainParts}
 
@@ -23,6 +23,7 @@ columns ns = texts is_state ns ++ texts is_input ns
 -- under every assignment the form has the value of the right side
 abbrev pub IsValueOf : List Name → Affine → Shape → Type 0
 IsValueOf ns f (tree.Plain e) = (w : Assignment) → sums.value f (sums.at (map w (columns ns))) ≡ value w e
+IsValueOf ns f (tree.Wide a b) = ⊥
 IsValueOf ns f (tree.Choice a b c) = ⊥
 
 -- the form is that of the item that defines the name

@@ -19,8 +19,8 @@ use Rattle.hys_ast.specs.declared.source.Section.TheVariants as section
 use Rattle.hys_ast.specs.Tree.{Tree, Decl, Shape, Item, Source}
 use Rattle.hys_ast.specs.Tree as tree
 use Rattle.hys_ast.specs.Places.{place_at}
-use Rattle.hys_ast.specs.Names.{names, is_state, is_input}
-use Rattle.hys_ast.specs.Typed.{is_real, differ, Bounded, DeclaredOnce, DefinedOnce, LeftTyped}
+use Rattle.hys_meaning.specs.Names.{names, is_state, is_input}
+use Rattle.hys_meaning.specs.Typed.{is_real, differ, Bounded, DeclaredOnce, DefinedOnce, LeftTyped}
 
 -- ---- tokens
 abbrev pub is_one_of : List ℕ → ℕ → Bool
@@ -150,6 +150,7 @@ is_continuous _ = false
 
 abbrev pub is_plain_shape : List (List ℕ) → Shape → Bool
 is_plain_shape declared (tree.Plain e) = is_right_side declared e
+is_plain_shape declared (tree.Wide a b) = false
 is_plain_shape declared (tree.Choice a b c) = false
 
 -- a next value in CONTINUOUS

@@ -9,7 +9,7 @@ use Rattle.hys_ast.specs.declared.place.Place.{Place}
 use Rattle.hys_ast.specs.declared.tree.BinaryOp.{BinaryOp}
 use Rattle.hys_ast.specs.Tree.{Tree}
 use Rattle.hys_ast.specs.Tree as tree
-use Rattle.hys_ast.specs.Values.{Assignment, literal, signed, computed}
+use Rattle.hys_meaning.specs.Values.{Assignment, literal, signed, computed}
 use Rattle.hys_plain.specs.Plain.{is_plus_or_minus}
 
 -- the tree is the sum or the difference of two others

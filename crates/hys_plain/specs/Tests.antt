@@ -5,9 +5,9 @@ use Rattle.hys_number.specs.Ops.{whole}
 use Rattle.hys_ast.specs.declared.source.Decl.{Decl as Declared}
 use Rattle.hys_ast.specs.Seen.{decl_of}
 use Rattle.hys_ast.specs.Tree.{Decl, Item}
-use Rattle.hys_ast.specs.Values.{Assignment}
-use Rattle.hys_ast.specs.Names.{is_state, name_of, look}
-use Rattle.hys_ast.specs.Typed.{has_box, IsBox, is_left, is_real, defines, is_defined}
+use Rattle.hys_meaning.specs.Values.{Assignment}
+use Rattle.hys_meaning.specs.Names.{is_state, name_of, look}
+use Rattle.hys_meaning.specs.Typed.{has_box, IsBox, is_left, is_real, defines, is_defined}
 use Rattle.hys_plain.specs.Plain.{is_plain_decl, is_plain_item}
 
 -- the names that are declared

@@ -3,8 +3,8 @@
 ghost use Rattle.std.specs.Prelude.{◌≡◌, ◌↔◌, ◌≤◌, List, true, map, filter, is_none, IsTrue, IfOk};
 ghost use Rattle.std.specs.List.{AllByRecursion};
 ghost use Rattle.hys_number.specs.Ops.{◌≤ₙ◌};
-ghost use Rattle.hys_ast.specs.Names.{name_of};
-ghost use Rattle.hys_ast.specs.Values.{Assignment};
+ghost use Rattle.hys_meaning.specs.Names.{name_of};
+ghost use Rattle.hys_meaning.specs.Values.{Assignment};
 ghost use Rattle.hys_ast.specs.Seen.{decl_of, maybe_tree_of};
 ghost use Rattle.hys_plain.specs.Plain.{is_end, is_plain_decl};
 ghost use Rattle.hys_plain.specs.Tests.{IsBoxed};

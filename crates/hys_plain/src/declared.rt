@@ -3,14 +3,14 @@
 ghost use Rattle.std.specs.Prelude.{◌≡◌, ◌&&◌, List, map, IsTrue};
 ghost use Rattle.std.specs.Str.{bytes_eq};
 ghost use Rattle.std.specs.List.{list_any, list_all};
-ghost use Rattle.hys_ast.specs.Names.{name_of, look, is_state};
-ghost use Rattle.hys_ast.specs.Values.{Assignment};
-ghost use Rattle.hys_ast.specs.Typed.{differ, is_left, is_real};
+ghost use Rattle.hys_meaning.specs.Names.{name_of, look, is_state};
+ghost use Rattle.hys_meaning.specs.Values.{Assignment};
+ghost use Rattle.hys_meaning.specs.Typed.{differ, is_left, is_real};
 ghost use Rattle.hys_ast.specs.Seen.{decl_of};
 ghost use Rattle.hys_plain.specs.Tests.{texts_of};
 
 use hys_ast::{Decl, Kind, Section};
-use hys_frac::Text;
+use hys_base::Text;
 
 /// Whether the name is declared.
 pub fn is_declared(name: &Text, decls: &[Decl]) -> bool

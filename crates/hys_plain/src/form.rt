@@ -7,7 +7,7 @@ ghost use Rattle.hys_number.specs.Ops.{◌+ₙ◌, ◌*ₙ◌};
 ghost use Rattle.hys_lin.specs.Over.{AreTermsOver};
 ghost use Rattle.hys_lin.specs.Sums.{sum_of, at, value as value_of};
 ghost use Rattle.hys_ast.specs.Seen.{tree_of};
-ghost use Rattle.hys_ast.specs.Values.{Assignment, value};
+ghost use Rattle.hys_meaning.specs.Values.{Assignment, value};
 ghost use Rattle.hys_plain.specs.Plain.{is_sum, names_in};
 ghost use Rattle.hys_plain.specs.Sums.{mentions, spread, term_of, StandOnce};
 ghost use Rattle.hys_plain.specs.Built.{names_of};

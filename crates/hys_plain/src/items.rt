@@ -3,13 +3,13 @@
 ghost use Rattle.std.specs.Prelude.{◌≡◌, ◌↔◌, ◌==◌, List, Some, None, true, false, map, IsTrue};
 ghost use Rattle.std.specs.List.{AllByRecursion, list_all, count_by};
 ghost use Rattle.hys_ast.specs.Seen.{decl_of, item_of};
-ghost use Rattle.hys_ast.specs.Typed.{defines, is_defined};
+ghost use Rattle.hys_meaning.specs.Typed.{defines, is_defined};
 ghost use Rattle.hys_plain.specs.Tests.{has_state, is_item, IsDefined};
 
 use crate::declared::is_state;
 use crate::right::is_right_side;
 use hys_ast::{Decl, Item, Section, Shape};
-use hys_frac::Text;
+use hys_base::Text;
 
 // Whether the item is the next value of a declared state, with a right side of a plain item.
 fn is_plain_item(item: &Item, decls: &[Decl]) -> bool

@@ -3,7 +3,7 @@
 ghost use Rattle.std.specs.Prelude.{◌≡◌, true};
 ghost use Rattle.std.specs.List.{list_all};
 ghost use Rattle.hys_lex.specs.Bytes.{is_digit};
-ghost use Rattle.hys_ast.specs.Values.{literal};
+ghost use Rattle.hys_meaning.specs.Values.{literal};
 ghost use Rattle.hys_plain.specs.Plain.{is_short};
 
 use hys_frac::{Frac, Text};

@@ -5,9 +5,9 @@ ghost use Rattle.std.specs.Str.{bytes_eq};
 ghost use Rattle.std.specs.List.{AllByRecursion, list_any, count_by};
 ghost use Rattle.hys_lin.specs.Over.{AreTermsOver};
 ghost use Rattle.hys_ast.specs.Seen.{tree_of, item_of, source_of};
-ghost use Rattle.hys_ast.specs.Names.{names, texts, is_state, is_input};
-ghost use Rattle.hys_ast.specs.Typed.{defines};
-ghost use Rattle.hys_ast.specs.Circular.{SomeItem};
+ghost use Rattle.hys_meaning.specs.Names.{names, texts, is_state, is_input};
+ghost use Rattle.hys_meaning.specs.Typed.{defines};
+ghost use Rattle.hys_meaning.specs.Circular.{SomeItem};
 ghost use Rattle.hys_plain.specs.Meant.{columns, IsNextOf, AreNext};
 ghost use Rattle.hys_plain.specs.Built.{IsPlainTree, IsRightOf, is_form, names_of};
 
@@ -15,7 +15,7 @@ use crate::form::form;
 use crate::items::defines;
 use crate::parts::Boxed;
 use hys_ast::{Expr, Item, Shape, Source};
-use hys_frac::Text;
+use hys_base::Text;
 use hys_lin::Affine;
 use std::alloc::{AllocError, Global};
 
@@ -29,6 +29,7 @@ fn right_side<'a>(items: &'a [Item], name: &Text) -> &'a Expr
         if defines(item, name) {
             match &item.shape {
                 Shape::Plain(whole) => return whole,
+                Shape::Wide(_, _) => unreachable!(),
                 Shape::Choice(_, _, _) => unreachable!(),
             }
         }

@@ -2,7 +2,7 @@ ghost use Rattle.std.specs.Prelude.{◌≡◌};
 ghost use Rattle.hys_plain.specs.declared.parts.PlainFault.TheVariants.{Memory};
 
 use hys_ast::Place;
-use hys_frac::{List, Text};
+use hys_base::{List, Text};
 use hys_lin::{Affine, Interval};
 use std::alloc::{AllocError, AllocFailed};
 

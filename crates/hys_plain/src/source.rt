@@ -15,7 +15,7 @@ use crate::kinds::refused_at;
 use crate::next::next_values;
 use crate::parts::{PlainFault, PlainParts};
 use hys_ast::Source;
-use hys_frac::List;
+use hys_base::List;
 use hys_lex::Token;
 use std::alloc::{AllocError, Global};
 

@@ -2,7 +2,7 @@
 
 ghost use Rattle.std.specs.Prelude.{◌≡◌, ◌≤◌, true, false, Some, None, nat_le};
 ghost use Rattle.hys_number.specs.Ops.{whole as whole_number};
-ghost use Rattle.hys_ast.specs.Values.{computed};
+ghost use Rattle.hys_meaning.specs.Values.{computed};
 ghost use Rattle.hys_ast.specs.Seen.{tree_of};
 ghost use Rattle.hys_plain.specs.Plain.{is_plus_or_minus, is_first_part, is_sum};
 ghost use Rattle.hys_plain.specs.Sums.{Key, seen, is_key, key_in, number_in, coefficient, mentions};

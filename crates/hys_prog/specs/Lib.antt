@@ -1,4 +1,2 @@
-pub mod Formulas
 pub mod Programs
 pub mod Example
-pub mod Folding

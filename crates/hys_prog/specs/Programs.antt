@@ -2,7 +2,7 @@
 use Rattle.std.specs.Prelude.{◌≡◌, ℕ, zero, suc, ◌+◌, List, [], ◌∷◌, Bool, true, false, Option, Some, None, All, cond, length, map}
 use Rattle.std.proofs.Common.{eqb}
 use Rattle.hys_number.specs.Ops.{◌<ₙ◌, whole}
-use Rattle.hys_frac.specs.Differ.{Differ}
+use Rattle.hys_base.specs.Differ.{Differ}
 use Rattle.hys_lin.specs.declared.form.Affine.{Affine}
 use Rattle.hys_lin.specs.Sums.{AreTerms, EachColumn}
 use Rattle.hys_lex.specs.declared.token.TokenKind.TheVariants.{Name as Word}
@@ -16,8 +16,8 @@ use Rattle.hys_prog.specs.declared.program.Body.{Body}
 use Rattle.hys_prog.specs.declared.program.Body.TheVariants.{Guard, Choice, Logic, Linear, NextBool, NextReal, OutBool, OutReal, MustHold, MustMost, MustZero}
 use Rattle.hys_prog.specs.declared.program.ProgItem.{ProgItem}
 use Rattle.hys_prog.specs.declared.program.Program.{Program}
-use Rattle.hys_prog.specs.declared.formula.Formula.{Formula}
-use Rattle.hys_prog.specs.Formulas.{tree_of, EachName, connectives}
+use Rattle.hys_formula.specs.declared.formula.Formula.{Formula}
+use Rattle.hys_formula.specs.Formulas.{tree_of, EachName, connectives}
 
 -- ---- names
 -- there is a name at the place, and it has the property

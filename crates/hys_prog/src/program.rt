@@ -1,4 +1,4 @@
-use crate::formula::{Formula, NameId};
+use hys_formula::{Formula, NameId};
 use hys_ast::{Kind, Place};
 use hys_frac::{Frac, List, Text};
 use hys_lin::{Affine, Interval};

@@ -70,7 +70,7 @@ arranged = record {
   reals_are = refl;
   d = λ k c l. absurd (omega arith);
   z = λ k c l. absurd (omega arith);
-  fresh_are = λ k c l. absurd (omega arith);
+  fresh_are = refl;
 }
 
 pub sum_exact : Exact sum_automaton SumStep sum_system

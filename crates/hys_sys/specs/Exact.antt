@@ -1,7 +1,8 @@
 -- Exactness of a system for an automaton: its rows have a solution exactly where the automaton has a legal
 -- step, there is one of each, and they agree. The relation of legal steps is a parameter, so that it may be
 -- that of a source's tree or of a program.
-use Rattle.std.specs.Prelude.{◌≡◌, ℕ, ◌<◌, List, [], ◌∷◌, ◌++◌, length, map, filter, All, HoldsAt, Bool, true, false, not}
+use Rattle.std.specs.Prelude.{◌≡◌, ℕ, zero, suc, ◌<◌, List, [], ◌∷◌, ◌++◌, length, map, filter, All, HoldsAt, Bool, true, false, not, codes}
+use Rattle.std.specs.Fmt.{decimal}
 use Rattle.hys_number.specs.Number.{Number}
 use Rattle.hys_lin.specs.Sums.{at, value, Within}
 use Rattle.hys_lin.specs.declared.form.Interval.{Interval}
@@ -74,8 +75,17 @@ variable_of c = record { name = c.name; kind = c.kind }
 abbrev pub output_of : Output → Variable
 output_of o = record { name = o.name; kind = o.kind }
 
+-- the name of the fresh column with this number
+abbrev pub fresh_name : ℕ → List ℕ
+fresh_name k = codes "#" ++ decimal k
+
+-- so many fresh columns from a number on, all Boolean
+abbrev pub fresh_variables : ℕ → ℕ → List Variable
+fresh_variables k zero = []
+fresh_variables k (suc n) = record { name = fresh_name k; kind = kind.Bool } ∷ fresh_variables (suc k) n
+
 -- The columns stand in the order of states, inputs, Boolean auxiliaries, fresh columns and real auxiliaries.
--- Fresh columns are Boolean.
+-- Fresh columns are Boolean and named `#1`, `#2` and on.
 pub record Arranged (A : Automaton) (S : System) : Type 0 where
   pub name : S.name ≡ A.name
   pub outputs : map output_of S.outputs ≡ A.outputs
@@ -87,7 +97,7 @@ pub record Arranged (A : Automaton) (S : System) : Type 0 where
   pub reals_are : map variable_of real_columns ≡ reals A
   pub d : All (λ c. c.role ≡ D) (bool_columns ++ fresh_columns)
   pub z : All (λ c. c.role ≡ Z) real_columns
-  pub fresh_are : All (λ c. c.kind ≡ kind.Bool) fresh_columns
+  pub fresh_are : map variable_of fresh_columns ≡ fresh_variables 1 (length fresh_columns)
 
 -- ---- exactness
 -- a solution that begins with the state and the input

@@ -1,7 +1,7 @@
 -- What every system keeps.
 use Rattle.std.specs.Prelude.{◌≡◌, ℕ, ◌+◌, ◌*◌, ◌≤◌, List, [], ◌∷◌, ◌++◌, length, map, All, false}
 use Rattle.hys_number.specs.Ops.{whole}
-use Rattle.hys_frac.specs.Differ.{Differ}
+use Rattle.hys_base.specs.Differ.{Differ}
 use Rattle.hys_lin.specs.Sums.{IsInterval}
 use Rattle.hys_lin.specs.Over.{AreTermsOver}
 use Rattle.hys_lin.specs.declared.form.Interval.{Interval}

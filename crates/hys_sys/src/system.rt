@@ -1,4 +1,4 @@
-use hys_frac::{List, Text};
+use hys_base::{List, Text};
 use hys_lin::{Affine, Interval, Row};
 
 /// What a column stands for: a state, an input, a Boolean auxiliary or a real auxiliary.

@@ -4,6 +4,12 @@ use Rattle.hys_ast.specs.Nodes.{if_any}
 use Rattle.hys_ast.proofs.Counting.{grouped}
 use Rattle.hys_ast.proofs.count.with_shape.Goals as goal
 
+pub returns-in-Wide : goal.returns-in-Wide
+returns-in-Wide c = λ es count.
+    let comparison = tree_of c.in-Wide.comparison in
+    let tolerance = tree_of c.in-Wide.tolerance in
+    rw c.in-Wide.is (grouped es (comparison ∷ []) (tolerance ∷ []) _ (c.with-in-Wide-2.ensures (es ++ comparison ∷ []) (c.with-in-Wide.ensures es count)))
+
 pub returns-in-Choice : goal.returns-in-Choice
 returns-in-Choice c = λ es count.
     let when = tree_of c.in-Choice.when in

@@ -1,5 +1,5 @@
 use Rattle.std.proofs.Common.{◌≡◌, ◌<◌, ◌+◌, ap, sym, arith, subst, refl, length, ℕ}
-use Rattle.hys_prog.specs.Formulas.{FormulaTree, tree_of, nodes, negated, joined, connectives, EachName}
+use Rattle.hys_formula.specs.Formulas.{FormulaTree, tree_of, nodes, negated, joined, connectives, EachName}
 use Rattle.hys_logic.specs.Literals.{column_in, literal_of, LiteralBelow}
 use Rattle.hys_logic.specs.Rows.{Added, stated_of}
 use Rattle.hys_logic.proofs.Truths.{name_more, literal_below, literal_more, joined_added}

@@ -1,4 +1,4 @@
-use Rattle.hys_prog.specs.Formulas.{tree_of, nodes}
+use Rattle.hys_formula.specs.Formulas.{tree_of, nodes}
 use Rattle.hys_logic.proofs.formula.+add_rows.Given as goal
 
 -- the nodes of the formula

@@ -1,5 +1,5 @@
 use Rattle.std.proofs.Common.{◌≡◌, ◌<◌, ◌+◌, ◌-◌, ◌∙◌, ap, arith, subst, length}
-use Rattle.hys_prog.specs.Formulas.{tree_of, connectives}
+use Rattle.hys_formula.specs.Formulas.{tree_of, connectives}
 use Rattle.hys_logic.specs.Literals.{column_in, literal_of, number_of, LiteralBelow}
 use Rattle.hys_logic.specs.Rows.{stated_of, BitsFrom}
 use Rattle.hys_logic.proofs.Truths.{name_more, literal_below, literal_is, made_rows, rows_mean, row_count}

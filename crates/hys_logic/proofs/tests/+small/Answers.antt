@@ -1,5 +1,5 @@
 use Rattle.std.proofs.Common.{◌≡◌, ◌<◌, sym, subst, refl, length, ℕ, IfSome}
-use Rattle.hys_prog.specs.Formulas.{FormulaTree, tree_of, negated, EachName}
+use Rattle.hys_formula.specs.Formulas.{FormulaTree, tree_of, negated, EachName}
 use Rattle.hys_logic.specs.Literals.{column_in}
 use Rattle.hys_logic.proofs.tests.+small.Goals as goal
 

@@ -1,6 +1,6 @@
 use Rattle.std.proofs.Common.{◌≡◌, map, take}
-use Rattle.hys_ast.specs.Names.{name_of}
-use Rattle.hys_ast.specs.Values.{Assignment}
+use Rattle.hys_meaning.specs.Names.{name_of}
+use Rattle.hys_meaning.specs.Values.{Assignment}
 use Rattle.hys_ast.specs.Seen.{decl_of}
 use Rattle.hys_plain.specs.Built.{boxes_of}
 use Rattle.hys_plain.proofs.bounds.boxes.Given as goal

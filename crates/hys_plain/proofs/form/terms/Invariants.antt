@@ -2,7 +2,7 @@ use Rattle.std.proofs.Common.{◌≡◌, ◌++◌, map, take}
 use Rattle.hys_lin.specs.Over.{AreTermsOver}
 use Rattle.hys_lin.specs.Sums.{sum_of, at}
 use Rattle.hys_ast.specs.Seen.{tree_of}
-use Rattle.hys_ast.specs.Values.{Assignment}
+use Rattle.hys_meaning.specs.Values.{Assignment}
 use Rattle.hys_plain.specs.Sums.{spread, term_of}
 use Rattle.hys_plain.specs.Built.{names_of}
 use Rattle.hys_plain.proofs.form.terms.Given as goal

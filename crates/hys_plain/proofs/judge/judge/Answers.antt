@@ -1,6 +1,6 @@
 use Rattle.std.proofs.Common.{◌∙◌, sym, map}
 use Rattle.hys_ast.specs.Seen.{decl_of}
-use Rattle.hys_ast.specs.Names.{parameters}
+use Rattle.hys_meaning.specs.Names.{parameters}
 use Rattle.hys_plain.proofs.Alls.{refused, clash}
 use Rattle.hys_plain.proofs.Judged.{plain_is, plain_kinds, plain_boxed, plain_items, plain_defined}
 use Rattle.hys_plain.proofs.judge.judge.Goals as goal

@@ -4,8 +4,8 @@ use Rattle.std.specs.List.{AllByRecursion, list_any, count_by}
 use Rattle.hys_lin.specs.Sums.{at, value as value_of}
 use Rattle.hys_ast.specs.declared.source.Item.{Item}
 use Rattle.hys_ast.specs.Seen.{tree_of, item_of, source_of}
-use Rattle.hys_ast.specs.Typed.{defines}
-use Rattle.hys_ast.specs.Values.{Assignment, value}
+use Rattle.hys_meaning.specs.Typed.{defines}
+use Rattle.hys_meaning.specs.Values.{Assignment, value}
 use Rattle.hys_plain.specs.Plain.{names_in, declared_texts}
 use Rattle.hys_plain.specs.Meant.{IsNextOf}
 use Rattle.hys_plain.specs.Sums.{StandOnce}

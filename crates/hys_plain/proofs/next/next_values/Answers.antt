@@ -3,7 +3,7 @@ use Rattle.std.proofs.lemmas.List.Elements.{All-push}
 use Rattle.hys_lin.specs.Over.{AreTermsOver}
 use Rattle.hys_lin.specs.declared.form.Affine.{Affine}
 use Rattle.hys_ast.specs.Seen.{source_of}
-use Rattle.hys_ast.specs.Names.{names}
+use Rattle.hys_meaning.specs.Names.{names}
 use Rattle.hys_plain.specs.Meant.{columns, AreNext}
 use Rattle.hys_plain.proofs.Parted.{named_there, names_more, next_push}
 use Rattle.hys_plain.proofs.next.next_values.Goals as goal

@@ -1,7 +1,7 @@
 use Rattle.std.proofs.Common.{All, length, take}
 use Rattle.hys_lin.specs.Over.{AreTermsOver}
 use Rattle.hys_ast.specs.Seen.{source_of}
-use Rattle.hys_ast.specs.Names.{names}
+use Rattle.hys_meaning.specs.Names.{names}
 use Rattle.hys_plain.specs.Meant.{columns, AreNext}
 use Rattle.hys_plain.specs.Built.{names_of}
 use Rattle.hys_plain.proofs.next.next_values.Given as goal

@@ -2,7 +2,7 @@ use Rattle.std.proofs.Common.{List, ◌∙◌, sym, ap, subst, All, length, true
 use Rattle.hys_lin.specs.Over.{AreTermsOver}
 use Rattle.hys_lin.specs.declared.form.Affine.{Affine}
 use Rattle.hys_ast.specs.Seen.{source_of}
-use Rattle.hys_ast.specs.Names.{names, texts, is_state}
+use Rattle.hys_meaning.specs.Names.{names, texts, is_state}
 use Rattle.hys_plain.specs.Meant.{columns, AreNext}
 use Rattle.hys_plain.specs.Built.{names_of}
 use Rattle.hys_plain.proofs.Parted.{boxes_given, part_names}

@@ -1,4 +1,4 @@
-use Rattle.std.proofs.Common.{ℕ, ◌<◌, ◌^◌, arith}
+use Rattle.std.proofs.Common.{◌<◌, ◌^◌, arith}
 use Rattle.hys_frac.proofs.Wholes.{whole_reduced, whole_made}
 use Rattle.hys_frac.proofs.frac.Frac.whole.Goals as goal
 

@@ -1,0 +1,6 @@
+//! Formulas over Boolean names, and their truth.
+#![tactic(auto)]
+
+mod formula;
+
+pub use formula::{Connective, Formula, NameId};

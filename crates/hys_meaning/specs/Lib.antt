@@ -1,0 +1,11 @@
+pub mod Values
+pub mod Names
+pub mod Forms
+pub mod Bodies
+pub mod Unfolded
+pub mod Typed
+pub mod Circular
+pub mod Steps
+pub mod Weight
+pub mod Accepted
+pub mod Folding

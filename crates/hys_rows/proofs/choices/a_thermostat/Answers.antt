@@ -1,5 +1,0 @@
-use Rattle.hys_rows.proofs.Heated.{thermostat_accepted, first, second, run}
-use Rattle.hys_rows.proofs.choices.a_thermostat.Goals as goal
-
-pub returns : goal.returns
-returns c = record { accepted = thermostat_accepted; first = first; second = second; run = run }

@@ -1,5 +1,0 @@
-use Rattle.hys_rows.proofs.Folded.{most, tiny, long, small}
-use Rattle.hys_rows.proofs.fitting.literals.Goals as goal
-
-pub returns : goal.returns
-returns c = record { most = most; least = tiny; long = long; small = small }

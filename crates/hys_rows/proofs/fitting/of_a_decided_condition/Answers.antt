@@ -1,5 +1,0 @@
-use Rattle.hys_rows.proofs.Folded.{decided_rows}
-use Rattle.hys_rows.proofs.fitting.of_a_decided_condition.Goals as goal
-
-pub returns : goal.returns
-returns c = record { numbers = decided_rows }

@@ -1,5 +1,0 @@
-use Rattle.hys_rows.proofs.Folded.{mixed_rows}
-use Rattle.hys_rows.proofs.fitting.of_a_negated_condition.Goals as goal
-
-pub returns : goal.returns
-returns c = record { numbers = mixed_rows }

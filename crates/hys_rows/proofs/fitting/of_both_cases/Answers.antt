@@ -1,5 +1,0 @@
-use Rattle.hys_rows.proofs.Folded.{spread_low, spread_high, spread_numbers}
-use Rattle.hys_rows.proofs.fitting.of_both_cases.Goals as goal
-
-pub returns : goal.returns
-returns c = record { low = spread_low; high = spread_high; numbers = spread_numbers }

@@ -1,5 +1,0 @@
-use Rattle.hys_rows.proofs.Folded.{twice_long}
-use Rattle.hys_rows.proofs.fitting.values_first.Goals as goal
-
-pub returns : goal.returns
-returns c = record { first = twice_long }

@@ -1,5 +1,0 @@
-use Rattle.hys_rows.proofs.Guarded.{at_edge, in_gap, at_tolerance}
-use Rattle.hys_rows.proofs.guards.at_the_edge.Goals as goal
-
-pub returns : goal.returns
-returns c = record { edge = at_edge; gap = in_gap; far = at_tolerance }

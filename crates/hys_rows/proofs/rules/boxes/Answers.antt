@@ -1,5 +1,0 @@
-use Rattle.hys_rows.proofs.Ruled.{single, empty_refused}
-use Rattle.hys_rows.proofs.rules.boxes.Goals as goal
-
-pub returns : goal.returns
-returns c = record { empty = empty_refused; single = single }

@@ -1,5 +1,0 @@
-use Rattle.hys_rows.proofs.Ruled.{guarded_accepted, always_accepted}
-use Rattle.hys_rows.proofs.rules.guards.Goals as goal
-
-pub returns : goal.returns
-returns c = record { five = guarded_accepted; twenty = always_accepted }

@@ -1,5 +1,0 @@
-use Rattle.hys_rows.proofs.Summed.{summed_accepted, leaves, outside}
-use Rattle.hys_rows.proofs.sums.at_the_end_of_a_box.Goals as goal
-
-pub returns : goal.returns
-returns c = record { accepted = summed_accepted; leaves = leaves; outside = outside }

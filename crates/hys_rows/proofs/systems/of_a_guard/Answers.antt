@@ -1,6 +1,0 @@
-use Rattle.hys_rows.proofs.Keeping.{guarded_lawful}
-use Rattle.hys_rows.proofs.Switched.{guarded_exact}
-use Rattle.hys_rows.proofs.systems.of_a_guard.Goals as goal
-
-pub returns : goal.returns
-returns c = record { system = guarded_lawful; exact = guarded_exact }

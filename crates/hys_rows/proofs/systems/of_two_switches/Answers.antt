@@ -1,6 +1,0 @@
-use Rattle.hys_rows.proofs.Keeping.{casting_lawful}
-use Rattle.hys_rows.proofs.Weighed.{casting_exact}
-use Rattle.hys_rows.proofs.systems.of_two_switches.Goals as goal
-
-pub returns : goal.returns
-returns c = record { system = casting_lawful; exact = casting_exact }

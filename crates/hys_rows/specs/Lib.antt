@@ -1,5 +1,0 @@
-pub mod Trees
-pub mod Sources
-pub mod OneStep
-pub mod Long
-pub mod Systems
