@@ -1,14 +1,16 @@
 -- The example keeps what every program keeps.
-use Rattle.std.proofs.Common.{◌≡◌, ℕ, zero, suc, ◌<◌, List, [], ◌∷◌, length, codes, true, nat_lt, refl, ap, arith, slice_index_or}
+use Rattle.std.proofs.Common.{◌≡◌, ℕ, zero, suc, ◌<◌, List, [], ◌∷◌, length, codes, true, nat_lt, refl, ap, arith, slice_index_or, inl}
 use Rattle.std.specs.List.{list_all}
 use Rattle.std.proofs.lemmas.List.Sums.{AllPass-from_list_all}
 use Rattle.std.proofs.lemmas.List.Elements.{All-cons, All-nil}
 use Rattle.hys_number.specs.Gcd.{gcd}
 use Rattle.hys_number.specs.Number.{Number, make}
-use Rattle.hys_number.specs.Ops.{whole}
+use Rattle.hys_number.specs.Ops.{whole, ◌≤ₙ◌}
+use Rattle.hys_number.proofs.Laws.{whole-ratio}
+use Rattle.hys_number.proofs.Field.{ratios}
 use Rattle.hys_lex.specs.Bytes.{is_name_byte}
 use Rattle.hys_lex.specs.Words.{keywords, IsAt}
-use Rattle.hys_prog.specs.Programs.{IsProgram, IsNameText, NameAt, definitions, is_defined}
+use Rattle.hys_prog.specs.Programs.{IsProgram, IsWord, IsNameText, KeepsRole, NameAt, definitions, is_defined}
 use Rattle.hys_prog.specs.Example.{example, start}
 use Rattle.hys_ast.specs.declared.source.Kind.TheVariants.{Real}
 use Rattle.hys_prog.specs.declared.program.Role.TheVariants.{State}
@@ -31,12 +33,21 @@ name_bytes : (i : ℕ) (d : ℕ) → i < 1 → is_name_byte (slice_index_or (120
 name_bytes zero d h = refl
 name_bytes (suc i) d h = absurd (omega arith)
 
-spelled : IsNameText (codes "x")
+spelled : IsWord (codes "x")
 spelled = (((refl, name_bytes), no_keyword), omega arith)
 
 once : (n : ℕ) → NameAt example.names n (λ x. is_defined x.role ≡ true) → definitions n example.items ≡ 1
 once zero h = refl
 once (suc n) h = absurd h
+
+abbrev only : Name
+only = record { text = codes "x"; role = State; kind = Real; place = start; bounds = record { low = whole 0; high = whole 10 }; value = whole 0 }
+
+above : 0 < 1
+above = omega arith
+
+zero_ten : whole 0 ≤ₙ whole 10
+zero_ten = rw (whole-ratio 0 1 above, whole-ratio 10 1 above) (simp (ratios, above) (omega arith))
 
 pub is_program : IsProgram example
 is_program = record {
@@ -44,6 +55,7 @@ is_program = record {
   named = ((refl, refl), tt);
   once = once;
   texts = (tt, tt);
-  spelled = All-cons (λ (x : Name). IsNameText x.text) (record { text = codes "x"; role = State; kind = Real; place = start; bounds = record { low = whole 0; high = whole 10 }; value = whole 0 }) [] spelled (All-nil (λ (x : Name). IsNameText x.text));
+  roles = All-cons (λ (x : Name). KeepsRole x.role x) only [] zero_ten (All-nil (λ (x : Name). KeepsRole x.role x));
+  spelled = All-cons (λ (x : Name). IsNameText x.text) only [] (inl spelled) (All-nil (λ (x : Name). IsNameText x.text));
   weight = refl;
 }

@@ -1,2 +1,4 @@
 pub mod Programs
 pub mod Example
+pub mod Steps
+pub mod Orders

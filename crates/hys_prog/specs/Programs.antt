@@ -1,10 +1,14 @@
 -- What every program keeps.
-use Rattle.std.specs.Prelude.{◌≡◌, ℕ, zero, suc, ◌+◌, List, [], ◌∷◌, Bool, true, false, Option, Some, None, All, cond, length, map}
+use Rattle.std.specs.Prelude.{◌≡◌, ℕ, zero, suc, ◌+◌, List, [], ◌∷◌, Bool, true, false, Option, Some, None, All, cond, length, map, ◌++◌, ◌⊎◌, codes}
 use Rattle.std.proofs.Common.{eqb}
+use Rattle.std.specs.Fmt.{decimal}
+use Rattle.hys_number.specs.Number.{Number}
 use Rattle.hys_number.specs.Ops.{◌<ₙ◌, whole}
 use Rattle.hys_base.specs.Differ.{Differ}
 use Rattle.hys_lin.specs.declared.form.Affine.{Affine}
-use Rattle.hys_lin.specs.Sums.{AreTerms, EachColumn}
+use Rattle.hys_lin.specs.declared.form.Interval.{Interval}
+use Rattle.hys_lin.specs.Bits.{IsBit}
+use Rattle.hys_lin.specs.Sums.{AreTerms, EachColumn, IsInterval}
 use Rattle.hys_lex.specs.declared.token.TokenKind.TheVariants.{Name as Word}
 use Rattle.hys_lex.specs.Pieces.{IsTokenText, IsShort}
 use Rattle.hys_ast.specs.declared.source.Kind.{Kind}
@@ -145,13 +149,41 @@ items_weight (t ∷ ts) = body_connectives t.body + cond (is_must t.body) 1 0 + 
 abbrev pub text_of : Name → List ℕ
 text_of x = x.text
 
--- the text is a name of the language: a word of at most 64 bytes, and no keyword. So it doesn't begin with `#`,
--- as the names of fresh columns do
+-- the text is a name of the language: a word of at most 64 bytes, and no keyword
+abbrev pub IsWord : List ℕ → Type 0
+IsWord text = IsTokenText Word text × IsShort Word (length text)
+
+-- the text of a guard that has no name in the source: `@` and its number
+pub record IsGuardText (text : List ℕ) : Type 0 where
+  pub number : ℕ
+  pub text_is : text ≡ codes "@" ++ decimal number
+
+-- so no name of a program begins with `#`, as the names of fresh columns do
 abbrev pub IsNameText : List ℕ → Type 0
-IsNameText text = IsTokenText Word text × IsShort Word (length text)
+IsNameText text = IsWord text ⊎ IsGuardText text
+
+-- ---- boxes and values
+-- a state's or an input's box: low is at most high, and that of a Boolean one is 0 to 1
+abbrev pub IsBoxOf : Kind → Interval → Type 0
+IsBoxOf Real i = IsInterval i
+IsBoxOf Truth i = (i.low ≡ whole 0) × (i.high ≡ whole 1)
+
+-- a Boolean parameter is 0 or 1
+abbrev pub IsValueOf : Kind → Number → Type 0
+IsValueOf Real a = Unit {0}
+IsValueOf Truth a = IsBit a
+
+-- what a name of the role keeps of its box and its value
+abbrev pub KeepsRole : Role → Name → Type 0
+KeepsRole State x = IsBoxOf x.kind x.bounds
+KeepsRole Input x = IsBoxOf x.kind x.bounds
+KeepsRole Output x = Unit {0}
+KeepsRole Parameter x = IsValueOf x.kind x.value
+KeepsRole Aux x = Unit {0}
 
 -- what every program keeps
 pub record IsProgram (p : Program) : Type 0 where
+  pub roles : All (λ x. KeepsRole x.role x) p.names
   pub bodies : EachItem (λ t. BodyOver p.names t.body) p.items
   pub named : EachItem (λ t. Named p.names t.name t.body) p.items
   pub once : (n : ℕ) → NameAt p.names n (λ x. is_defined x.role ≡ true) → definitions n p.items ≡ 1

@@ -1,5 +1,5 @@
-use hys_formula::{Formula, NameId};
 use hys_ast::{Kind, Place};
+use hys_formula::{Formula, NameId};
 use hys_frac::{Frac, List, Text};
 use hys_lin::{Affine, Interval};
 
