@@ -10,7 +10,7 @@ use crate::Status;
 use crate::lines::{describe_refusal, describe_system, describe_unread};
 use crate::outcome::{NewFile, Outcome};
 use hys_compile::{Detail, LimitKind, MOST_BYTES, SourceFault, compile};
-use hys_frac::{List, Text};
+use hys_base::{List, Text};
 use hys_io::{Files, ReadFault, read_all};
 use hys_sys::{System, write_system};
 use std::alloc::{AllocError, Global};
@@ -27,8 +27,8 @@ fn report_unread(alloc: Global, source: &str) -> Result<Outcome, AllocError>
 }
 
 // The outcome where the source is refused.
-fn report_refusal(alloc: Global, fault: SourceFault) -> Result<Outcome, AllocError>
-    ensures { IfOk result (λ o. o ≡ saying Source (refused_line fault)) }
+fn report_refusal(alloc: Global, fault: &SourceFault) -> Result<Outcome, AllocError>
+    ensures { IfOk result (λ o. o ≡ saying Source (refused_line fault.now)) }
 {
     Ok(Outcome {
         status: Status::Source,
@@ -64,7 +64,7 @@ fn conclude_text(alloc: Global, text: &[u8], target: &str) -> Result<Outcome, Al
                 ..
             },
         ) => Err(AllocError),
-        Err(fault) => report_refusal(alloc, fault),
+        Err(fault) => report_refusal(alloc, &fault),
     }
 }
 
@@ -84,7 +84,7 @@ pub fn conclude_compile<F: Files>(
 {
     match read_all(alloc, files, source, MOST_BYTES) {
         Err(ReadFault::Fault) => report_unread(alloc, source),
-        Err(ReadFault::TooLong) => report_refusal(alloc, SourceFault::over(LimitKind::Bytes)),
+        Err(ReadFault::TooLong) => report_refusal(alloc, &SourceFault::over(LimitKind::Bytes)),
         Err(ReadFault::Memory) => Err(AllocError),
         Ok(text) => conclude_text(alloc, &text, target),
     }

@@ -1,5 +1,5 @@
 use crate::Status;
-use hys_frac::{List, Text};
+use hys_base::{List, Text};
 
 /// A file to be put.
 #[derive(Drop)]

@@ -9,7 +9,7 @@ use crate::finish::carry_out;
 use crate::lines::describe_forms;
 use crate::outcome::Outcome;
 use crate::words::compile_form;
-use hys_frac::List;
+use hys_base::List;
 use hys_io::{Files, Sink};
 use std::alloc::{AllocError, Global};
 
