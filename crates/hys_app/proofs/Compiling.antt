@@ -14,14 +14,19 @@ use Rattle.hys_app.specs.Compiling.{saying, CausedBy, CompiledFrom, HoldsPlain, 
 use Rattle.hys_app.specs.declared.status.Status.TheVariants.{Done, Usage, Read, Source}
 use Rattle.hys_app.specs.declared.outcome.Outcome.{Outcome}
 
-pub refused_of : (text target : List ℕ) (fault : SourceFault) (o : Outcome) → o ≡ saying Source (refused_line fault) → IsRefusal text fault →
+refused_one : (text target : List ℕ) (fault : SourceFault) (o : Outcome) → o ≡ saying Source (refused_line fault) → IsRefusal text fault →
     (fault ≡ no_memory → ⊥) → (IsPlainText text → fault ≡ no_memory) → IsJudged (IsCause text) (IsCompiled text) (IsPlainText text) target o
-refused_of text target fault o e (inl memory) other plain = absurd (other memory)
-refused_of text target fault o e (inr cause) other plain = subst (IsJudged (IsCause text) (IsCompiled text) (IsPlainText text) target) (sym e) (refused fault cause (λ p. other (plain p)))
+refused_one text target fault o e (inl memory) other plain = absurd (other memory)
+refused_one text target fault o e (inr cause) other plain = subst (IsJudged (IsCause text) (IsCompiled text) (IsPlainText text) target) (sym e) (refused fault cause (λ p. other (plain p)))
 
 pub compiled_of : (text target : List ℕ) (system : System) (o : Outcome) → IsPutFor system target o → IsCompiled text system →
     IsJudged (IsCause text) (IsCompiled text) (IsPlainText text) target o
 compiled_of text target system o e c = subst (IsJudged (IsCause text) (IsCompiled text) (IsPlainText text) target) (sym e) (compiled system c)
+
+pub refused_of : (text target : List ℕ) (fault : SourceFault) (x : Result Outcome AllocError) → IfOk x (λ o. o ≡ saying Source (refused_line fault)) →
+    IfOk x (λ o. fault ≢ no_memory) → IsRefusal text fault → (IsPlainText text → fault ≡ no_memory) → IfOk x (IsJudged (IsCause text) (IsCompiled text) (IsPlainText text) target)
+refused_of text target fault (Ok o) e other h plain = refused_one text target fault o e h other plain
+refused_of text target fault (Err a) e other h plain = tt
 
 -- ---- from the bytes that were read to the source that the files tell
 -- what holds of the bytes read holds of the file

@@ -1,5 +1,6 @@
-ghost use Rattle.std.specs.Prelude.{◌≡◌, ◌≤◌, length, IfOk};
+ghost use Rattle.std.specs.Prelude.{◌≡◌, ◌≢◌, ◌≤◌, length, IfOk};
 ghost use Rattle.hys_sys.specs.declared.system.System.{System as Matrices};
+ghost use Rattle.hys_compile.specs.Faults.{no_memory};
 ghost use Rattle.hys_compile.specs.Text.{most_bytes, IsCause, IsCompiled, IsPlainText};
 ghost use Rattle.hys_app.specs.Lines.{read_line, refused_line};
 ghost use Rattle.hys_app.specs.Ends.{IsReached};
@@ -9,8 +10,8 @@ ghost use Rattle.hys_app.specs.declared.status.Status.TheVariants.{Read, Source}
 use crate::Status;
 use crate::lines::{describe_refusal, describe_system, describe_unread};
 use crate::outcome::{NewFile, Outcome};
-use hys_compile::{Detail, LimitKind, MOST_BYTES, SourceFault, compile};
 use hys_base::{List, Text};
+use hys_compile::{Detail, LimitKind, MOST_BYTES, SourceFault, compile};
 use hys_io::{Files, ReadFault, read_all};
 use hys_sys::{System, write_system};
 use std::alloc::{AllocError, Global};
@@ -26,10 +27,14 @@ fn report_unread(alloc: Global, source: &str) -> Result<Outcome, AllocError>
     })
 }
 
-// The outcome where the source is refused.
+// The outcome where the source is refused. Want of memory is no refusal.
 fn report_refusal(alloc: Global, fault: &SourceFault) -> Result<Outcome, AllocError>
-    ensures { IfOk result (λ o. o ≡ saying Source (refused_line fault.now)) }
+    ensures said { IfOk result (λ o. o ≡ saying Source (refused_line fault.now)) }
+    ensures known { IfOk result (λ o. fault.now ≢ no_memory) }
 {
+    if matches!(&fault.detail, Detail::Memory) {
+        return Err(AllocError);
+    }
     Ok(Outcome {
         status: Status::Source,
         line: List::of(describe_refusal(alloc, fault)?.into_bytes()),
@@ -51,19 +56,13 @@ fn report_system(alloc: Global, system: &System, target: &str) -> Result<Outcome
 }
 
 // Compiles the text of a source.
-#[tactic(auto, using(crate::proofs::Compiling::refused_of, crate::proofs::Compiling::compiled_of))]
+#[tactic(auto, using(crate::proofs::Compiling::compiled_of))]
 fn conclude_text(alloc: Global, text: &[u8], target: &str) -> Result<Outcome, AllocError>
     requires { length text.now ≤ most_bytes }
     ensures { IfOk result (IsJudged (IsCause text.now) (IsCompiled text.now) (IsPlainText text.now) target.now) }
 {
     match compile(alloc, text) {
         Ok(system) => report_system(alloc, &system, target),
-        Err(
-            SourceFault {
-                detail: Detail::Memory,
-                ..
-            },
-        ) => Err(AllocError),
         Err(fault) => report_refusal(alloc, &fault),
     }
 }
