@@ -1,76 +1,89 @@
--- What stands in files and in a sink when a run has ended.
-use Rattle.std.specs.Prelude.{◌≡◌, ℕ, ◌⊎◌, List, take, Option, Some}
-use Rattle.std.specs.FinMap as map
-use Rattle.hys_io.specs.Outside.{Named, IfAppended, IfPut, IfTorn, IfHolds}
-use Rattle.hys_sys.specs.System.{IsSystem}
-use Rattle.hys_sys.specs.Matrix.{matrix_text}
-use Rattle.hys_sys.specs.declared.system.System.{System}
-use Rattle.hys_compile.specs.declared.fault.SourceFault.{SourceFault}
-use Rattle.hys_compile.specs.Text.{IsCause, IsCompiled, IsPlainText}
-use Rattle.hys_app.specs.Lines.{read_line, refused_line, compiled_line}
+-- How a run ends, whatever its command: what it put and printed, and which failures of the outside it met.
+use Rattle.std.specs.Prelude.{◌≡◌, ◌≢◌, ℕ, ◌≤◌, List, take, Option, None, Some}
+use Rattle.hys_io.specs.Outside.{Named, Rose, IfAppended, IfPut, IfTorn}
+use Rattle.hys_io.specs.declared.files.Files.{Ghosts as FilesOf}
+use Rattle.hys_io.specs.declared.sink.Sink.{Ghosts as SinkOf}
+use Rattle.hys_app.specs.declared.status.Status.{Status}
+use Rattle.hys_app.specs.declared.status.Status.TheVariants.{Read, Write, Memory}
+use Rattle.hys_app.specs.declared.outcome.NewFile.{NewFile}
+use Rattle.hys_app.specs.declared.outcome.Outcome.{Outcome}
 
--- where the text is told: a prefix of the line was appended
+-- what files and a sink tell at one time
+pub record Outside : Type 0 where
+  pub held : Option Named
+  pub read_faults : ℕ
+  pub put_faults : ℕ
+  pub written : Option (List ℕ)
+  pub faults : ℕ
+
+abbrev pub outside : {A B : Type 0} → FilesOf A → SinkOf B → A → B → Outside
+outside F S files out = record {
+  held = F.held files;
+  read_faults = F.read_faults files;
+  put_faults = F.put_faults files;
+  written = S.written out;
+  faults = S.faults out;
+}
+
+-- ---- files and texts
+-- where the files are told: the file stands there whole, and nothing else has changed
+abbrev pub IsPut : Option NewFile → Option Named → Option Named → Type 0
+IsPut None held held' = held' ≡ held
+IsPut (Some file) held held' = IfPut held held' file.name file.bytes
+
+-- where the files are told: nothing has changed, or the file's name alone, which holds a beginning of its bytes
+abbrev pub IsTorn : Option NewFile → Option Named → Option Named → Type 0
+IsTorn None held held' = held' ≡ held
+IsTorn (Some file) held held' = IfTorn held held' file.name file.bytes
+
+-- where the text is told: a beginning of the line was appended
 abbrev pub IfPart : Option (List ℕ) → Option (List ℕ) → List ℕ → Type 0
 IfPart old new line = (n : ℕ) × IfAppended old new (take n line)
 
--- ---- what a source means
--- where the files are told: the fault is a cause to refuse the bytes of the source
-abbrev pub CausedBy : Option Named → List ℕ → SourceFault → Type 0
-CausedBy held source fault = IfHolds held source (λ file. IsCause file fault)
+-- nothing is put or printed, and no failure of a put or of the sink is met
+pub record IsUntouched (old new : Outside) : Type 0 where
+  pub held : new.held ≡ old.held
+  pub put_faults : new.put_faults ≡ old.put_faults
+  pub written : new.written ≡ old.written
+  pub faults : new.faults ≡ old.faults
 
--- the system is lawful and, where the files are told, exact for the accepted source with these bytes
-abbrev pub CompiledFrom : Option Named → List ℕ → System → Type 0
-CompiledFrom held source system = IsSystem system × IfHolds held source (λ file. IsCompiled file system)
+-- the outcome's file is put, if it has one, and its line is not printed yet
+pub record IsFilePut (o : Outcome) (old new : Outside) : Type 0 where
+  pub put : IsPut o.file old.held new.held
+  pub put_faults : new.put_faults ≡ old.put_faults
 
--- the files are told, and the bytes of the source are a plain text
-pub record HoldsPlain (held : Option Named) (source : List ℕ) : Type 0 where
-  pub files : Named
-  pub file : List ℕ
-  pub told : held ≡ Some files
-  pub there : map.get files source ≡ Some file
-  pub plain : IsPlainText file
+-- ---- how an outcome is carried out
+-- First the file is put, then the line is printed. Either may fail, and then nothing follows it.
+pub data IsCarriedOut (o : Outcome) (result : Status) (old new : Outside) : Type 0 where
+  -- no memory for the put
+  unput : result ≡ Memory → IsUntouched old new → IsCarriedOut o result old new
+  -- the put fails: the file may be torn, and nothing is printed
+  torn : result ≡ Write → IsTorn o.file old.held new.held → Rose old.put_faults new.put_faults →
+      new.written ≡ old.written → new.faults ≡ old.faults → IsCarriedOut o result old new
+  -- the sink fails: the file stands, and a part of the line is printed
+  cut : result ≡ Write → IsFilePut o old new → IfPart old.written new.written o.line → Rose old.faults new.faults → IsCarriedOut o result old new
+  -- no memory for printing, likewise
+  short : result ≡ Memory → IsFilePut o old new → IfPart old.written new.written o.line → new.faults ≡ old.faults → IsCarriedOut o result old new
+  -- the file stands and the line is printed
+  whole : result ≡ o.status → IsFilePut o old new → IfAppended old.written new.written o.line → new.faults ≡ old.faults → IsCarriedOut o result old new
 
--- ---- how a run ends, by the faults and the systems that the source has
--- where the text is told: the line of a fault was appended
-pub record IsRefused (Has : SourceFault → Type 0) (written written' : Option (List ℕ)) : Type 0 where
-  pub fault : SourceFault
-  pub cause : Has fault
-  pub said : IfAppended written written' (refused_line fault)
+-- ---- how a run ends
+-- A read failed exactly where the outcome says so, and then it puts nothing. The statuses of what fails later are not its own.
+pub record IsAfterReads (o : Outcome) (read_faults read_faults' : ℕ) : Type 0 where
+  pub failed : o.status ≡ Read → Rose read_faults read_faults'
+  pub unput : o.status ≡ Read → o.file ≡ None
+  pub calm : o.status ≢ Read → read_faults' ≡ read_faults
+  pub not_write : o.status ≢ Write
+  pub not_memory : o.status ≢ Memory
 
--- the target holds the matrix text of a system, whose columns and rows the line counts
-pub record IsPut (Means : System → Type 0) (held held' : Option Named) (written written' : Option (List ℕ)) (target : List ℕ) : Type 0 where
-  pub system : System
-  pub meant : Means system
-  pub put : IfPut held held' target (matrix_text system)
-  pub said : IfAppended written written' (compiled_line system)
+-- a command with these lawful outcomes comes to this one
+pub record IsReached (Lawful : Outcome → Type 0) (o : Outcome) (read_faults read_faults' : ℕ) : Type 0 where
+  pub lawful : Lawful o
+  pub reads : IsAfterReads o read_faults read_faults'
 
--- where the files are told: nothing has changed, or the target alone, which holds a prefix of a system's matrix text
-abbrev pub Kept : (System → Type 0) → Option Named → Option Named → List ℕ → Type 0
-Kept Means held held' target = (held' ≡ held) ⊎ ((system : System) × Means system × IfTorn held held' target (matrix_text system))
-
--- where the files are told: nothing has changed, or the target alone, which holds a system's matrix text
-abbrev pub Whole : (System → Type 0) → Option Named → Option Named → List ℕ → Type 0
-Whole Means held held' target = (held' ≡ held) ⊎ ((system : System) × Means system × IfPut held held' target (matrix_text system))
-
--- a line that may be printed: that of a fault, that of a system, or another that is allowed
-abbrev pub IsLine : (List ℕ → Type 0) → (SourceFault → Type 0) → (System → Type 0) → List ℕ → Type 0
-IsLine Other Has Means line =
-    ((fault : SourceFault) × Has fault × (line ≡ refused_line fault)) ⊎ Other line
-    ⊎ ((system : System) × Means system × (line ≡ compiled_line system))
-
--- where the text is told: a prefix of one of the lines was appended
-pub record SomePart (Other : List ℕ → Type 0) (Has : SourceFault → Type 0) (Means : System → Type 0) (old new : Option (List ℕ)) : Type 0 where
-  pub line : List ℕ
-  pub lawful : IsLine Other Has Means line
-  pub part : IfPart old new line
-
--- the source can't be read
-abbrev pub IsReadLine : List ℕ → List ℕ → Type 0
-IsReadLine source line = line ≡ read_line source
-
--- the two texts of a system: its matrix text, and the line that counts its columns and rows
-pub record AreTexts (Means : System → Type 0) (text line : List ℕ) : Type 0 where
-  pub system : System
-  pub meant : Means system
-  pub matrix : text ≡ matrix_text system
-  pub counts : line ≡ compiled_line system
+-- A run of a command with these lawful outcomes ends in one of two ways.
+pub data Ends (Lawful : Outcome → Type 0) (result : Status) (old new : Outside) : Type 0 where
+  -- no memory to come to an outcome
+  unmade : result ≡ Memory → old.read_faults ≤ new.read_faults → IsUntouched old new → Ends Lawful result old new
+  -- an outcome is carried out
+  reached : (o : Outcome) → IsReached Lawful o old.read_faults new.read_faults → IsCarriedOut o result old new → Ends Lawful result old new

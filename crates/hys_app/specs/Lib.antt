@@ -1,3 +1,5 @@
+pub mod Statuses
 pub mod Words
 pub mod Lines
 pub mod Ends
+pub mod Compiling

@@ -1,10 +1,16 @@
 -- The printed lines.
-use Rattle.std.specs.Prelude.{ℕ, ◌==◌, List, [], ◌∷◌, ◌++◌, length, codes, if◌then◌else◌}
+use Rattle.std.specs.Prelude.{ℕ, List, [], ◌∷◌, ◌++◌, length, codes}
 use Rattle.std.specs.Fmt.{decimal}
+use Rattle.hys_frac.specs.Written.{number_text}
+use Rattle.hys_lin.specs.declared.lost.Lost.{Lost}
+use Rattle.hys_lin.specs.declared.lost.Op.{Op}
+use Rattle.hys_lin.specs.declared.lost.Op.TheVariants as op
+use Rattle.hys_ast.specs.declared.place.Place.{Place}
 use Rattle.hys_sys.specs.declared.system.System.{System}
+use Rattle.hys_compile.specs.Faults.{words_of}
 use Rattle.hys_compile.specs.declared.fault.SourceFault.{SourceFault}
 use Rattle.hys_compile.specs.declared.fault.Detail.{Detail}
-use Rattle.hys_compile.specs.declared.fault.Detail.TheVariants.{At, Limit, Memory}
+use Rattle.hys_compile.specs.declared.fault.Detail.TheVariants.{At, Named, Names, Ends, Literal, Range, Tolerance, Limit, Memory}
 use Rattle.hys_compile.specs.declared.fault.LimitKind.{LimitKind}
 use Rattle.hys_compile.specs.declared.fault.LimitKind.TheVariants as limit
 
@@ -16,31 +22,45 @@ usage_line = codes "usage: hysdel compile SRC MLD | sim SRC START INPUTS OUT | p
 unfoldable pub read_line : List ℕ → List ℕ
 read_line name = codes "read failed: " ++ (name ++ 10 ∷ [])
 
--- the words of a fault's number
-unfoldable pub fault_words : ℕ → List ℕ
-fault_words n =
-    if n == 1 then codes "byte" else
-    (if n == 2 then codes "comment" else
-    (if n == 3 then codes "long" else
-    (if n == 4 then codes "syntax" else
-    (if n == 18 then codes "limit" else codes "not yet"))))
-
+-- what passes its limit
 unfoldable pub limit_word : LimitKind → List ℕ
 limit_word limit.Bytes = codes "bytes"
 limit_word limit.Tokens = codes "tokens"
 limit_word limit.Nesting = codes "nesting"
 limit_word limit.Nodes = codes "nodes"
 limit_word limit.Expression = codes "expression"
+limit_word limit.Names = codes "names"
 
--- the place of a fault, or the limit that is passed, to the end of the line
+unfoldable pub operation_sign : Op → List ℕ
+operation_sign op.Add = codes "+"
+operation_sign op.Sub = codes "-"
+operation_sign op.Mul = codes "*"
+operation_sign op.Div = codes "/"
+
+unfoldable pub place_text : Place → List ℕ
+place_text p = codes " at " ++ (decimal p.line ++ (codes ":" ++ decimal p.col))
+
+-- each name after a space
+abbrev pub names_text : List (List ℕ) → List ℕ
+names_text [] = []
+names_text (n ∷ ns) = codes " " ++ (n ++ names_text ns)
+
+-- what a fault shows behind its words
 unfoldable pub detail_text : Detail → List ℕ
-detail_text (At place) = codes " at " ++ (decimal place.line ++ (codes ":" ++ (decimal place.col ++ 10 ∷ [])))
-detail_text (Limit kind) = codes " " ++ (limit_word kind ++ 10 ∷ [])
-detail_text Memory = 10 ∷ []
+detail_text (At place) = place_text place
+detail_text (Named name) = codes " " ++ name
+detail_text (Names names) = names_text names
+detail_text (Ends place low high) = place_text place ++ (codes ": " ++ (number_text low ++ (codes " " ++ number_text high)))
+detail_text (Literal place) = place_text place ++ codes ": literal"
+detail_text (Range place lost) =
+    place_text place ++ (codes ": " ++ (number_text lost.left ++ (codes " " ++ (operation_sign lost.op ++ (codes " " ++ number_text lost.right)))))
+detail_text (Tolerance place value) = place_text place ++ (codes ": " ++ number_text value)
+detail_text (Limit kind) = codes " " ++ limit_word kind
+detail_text Memory = []
 
 -- the source is refused
 unfoldable pub refused_line : SourceFault → List ℕ
-refused_line f = codes "source refused: " ++ (decimal f.number ++ (codes " " ++ (fault_words f.number ++ detail_text f.detail)))
+refused_line f = codes "source refused: " ++ (decimal f.number ++ (codes " " ++ (words_of f.number ++ (detail_text f.detail ++ 10 ∷ []))))
 
 -- a matrix text is put
 unfoldable pub compiled_line : System → List ℕ

@@ -2,8 +2,11 @@
 #![tactic(auto)]
 
 mod compile;
+mod finish;
+pub mod laws;
 mod lines;
-mod say;
+mod number;
+mod outcome;
 mod status;
 #[cfg(test)]
 mod tests;

@@ -1,4 +1,4 @@
-/// How a run ended. The number is the exit status of the program.
+/// How a run ended.
 #[derive(Clone, Copy, Debug, PartialEq, Eq)]
 pub enum Status {
     /// All was done.
@@ -23,6 +23,4 @@ pub enum Status {
     Range = 9,
     /// Memory was wanting.
     Memory = 10,
-    /// The pivots of a plan are spent.
-    Pivots = 11,
 }

@@ -3,7 +3,8 @@ use Rattle.std.proofs.Common.{◌≡◌, ◌⊎◌, ℕ, List, Result, Ok, Err, 
 use Rattle.std.specs.Result.{IsErrAnd}
 use Rattle.hys_sys.specs.declared.system.System.{System}
 use Rattle.hys_compile.specs.declared.fault.SourceFault.{SourceFault}
-use Rattle.hys_compile.specs.Text.{no_memory, IsCause, IsRefusal, IsCompiled, IsPlainText}
+use Rattle.hys_compile.specs.Faults.{no_memory}
+use Rattle.hys_compile.specs.Text.{IsCause, IsRefusal, IsCompiled, IsPlainText}
 
 -- a cause of the text is the fault that is answered, memory aside
 pub exactly : (text : List ℕ) (r : Result System SourceFault) (f : SourceFault) → ((f g : SourceFault) → IsCause text f → IsCause text g → f ≡ g) → ((f : SourceFault) → IsPlainText text → IsCause text f → ⊥) →

@@ -13,7 +13,9 @@ use Rattle.hys_ast.specs.declared.place.Place.{Place}
 use Rattle.hys_plain.specs.Plain.{IsPlain, unbuilt_place}
 use Rattle.hys_compile.specs.declared.fault.SourceFault.{SourceFault}
 use Rattle.hys_compile.specs.declared.fault.LimitKind.TheVariants as limit
-use Rattle.hys_compile.specs.Text.{most_bytes, most_tokens, most_nodes, most_nodes_of_one, byte_of, fault_at, over_limit, no_memory, IsLexed, IsCounted, IsParsed, IsMeasured, IsCause, IsRefusal, too_long, byte, comment, long, many, deep, syntax, nodes, expression, unbuilt}
+use Rattle.hys_compile.specs.declared.number.TheConstants as number
+use Rattle.hys_compile.specs.Faults.{fault_at, over_limit, no_memory}
+use Rattle.hys_compile.specs.Text.{most_bytes, most_tokens, most_nodes, most_nodes_of_one, byte_of, IsLexed, IsCounted, IsParsed, IsMeasured, IsCause, IsRefusal, too_long, byte, comment, long, many, deep, syntax, nodes, expression, unbuilt}
 
 pub by_bytes : (text : List ℕ) (f : SourceFault) → f ≡ over_limit limit.Bytes → most_bytes < length text → IsRefusal text f
 by_bytes text f e h = inr (subst (IsCause text) (sym e) (too_long h))
@@ -21,13 +23,13 @@ by_bytes text f e h = inr (subst (IsCause text) (sym e) (too_long h))
 pub by_memory : (text : List ℕ) (f : SourceFault) → f ≡ no_memory → IsRefusal text f
 by_memory text f e = inl e
 
-pub by_byte : (text : List ℕ) (at : ℕ) (f : SourceFault) → f ≡ fault_at 1 (place_at text at) → length text ≤ most_bytes → IsFirstFault text (lexing.Byte at) → IsRefusal text f
+pub by_byte : (text : List ℕ) (at : ℕ) (f : SourceFault) → f ≡ fault_at number.BYTE (place_at text at) → length text ≤ most_bytes → IsFirstFault text (lexing.Byte at) → IsRefusal text f
 by_byte text at f e short h = inr (subst (IsCause text) (sym e) (byte at short h))
 
-pub by_comment : (text : List ℕ) (at : ℕ) (f : SourceFault) → f ≡ fault_at 2 (place_at text at) → length text ≤ most_bytes → IsFirstFault text (lexing.Comment at) → IsRefusal text f
+pub by_comment : (text : List ℕ) (at : ℕ) (f : SourceFault) → f ≡ fault_at number.COMMENT (place_at text at) → length text ≤ most_bytes → IsFirstFault text (lexing.Comment at) → IsRefusal text f
 by_comment text at f e short h = inr (subst (IsCause text) (sym e) (comment at short h))
 
-pub by_long : (text : List ℕ) (at : ℕ) (f : SourceFault) → f ≡ fault_at 3 (place_at text at) → length text ≤ most_bytes → IsFirstFault text (lexing.Long at) → IsRefusal text f
+pub by_long : (text : List ℕ) (at : ℕ) (f : SourceFault) → f ≡ fault_at number.LONG (place_at text at) → length text ≤ most_bytes → IsFirstFault text (lexing.Long at) → IsRefusal text f
 by_long text at f e short h = inr (subst (IsCause text) (sym e) (long at short h))
 
 pub by_tokens : (text : List ℕ) (tokens : List Token) (f : SourceFault) → f ≡ over_limit limit.Tokens → IsLexed text tokens → most_tokens < length tokens → IsRefusal text f
@@ -36,7 +38,7 @@ by_tokens text tokens f e h more = inr (subst (IsCause text) (sym e) (many token
 pub by_depth : (text : List ℕ) (tokens : List Token) (k : ℕ) (f : SourceFault) → f ≡ over_limit limit.Nesting → IsCounted text tokens → IsFirstDeep tokens k → IsRefusal text f
 by_depth text tokens k f e h d = inr (subst (IsCause text) (sym e) (deep tokens k h d))
 
-pub by_syntax : (text : List ℕ) (tokens : List Token) (k : ℕ) (f : SourceFault) → f ≡ fault_at 4 (place_at text (byte_of text tokens k)) → IsCounted text tokens → IsUngrammatical text tokens k → IsRefusal text f
+pub by_syntax : (text : List ℕ) (tokens : List Token) (k : ℕ) (f : SourceFault) → f ≡ fault_at number.SYNTAX (place_at text (byte_of text tokens k)) → IsCounted text tokens → IsUngrammatical text tokens k → IsRefusal text f
 by_syntax text tokens k f e h u = inr (subst (IsCause text) (sym e) (syntax tokens k h u))
 
 pub by_nodes : (text : List ℕ) (tokens : List Token) (tree : Source) (c : NodeCount) (f : SourceFault) → f ≡ over_limit limit.Nodes → IsParsed text tokens tree → IsCountOf (expressions tree) c → most_nodes < c.total → IsRefusal text f
@@ -45,5 +47,5 @@ by_nodes text tokens tree c f e h count more = inr (subst (IsCause text) (sym e)
 pub by_expression : (text : List ℕ) (tokens : List Token) (tree : Source) (c : NodeCount) (f : SourceFault) → f ≡ over_limit limit.Expression → IsParsed text tokens tree → IsCountOf (expressions tree) c → c.total ≤ most_nodes → most_nodes_of_one < c.largest → IsRefusal text f
 by_expression text tokens tree c f e h count few more = inr (subst (IsCause text) (sym e) (expression tokens tree h (omega (arith, count.total_is)) (omega (arith, count.largest_is))))
 
-pub by_section : (text : List ℕ) (tokens : List Token) (tree : Source) (place : Place) (f : SourceFault) → f ≡ fault_at 19 place → IsMeasured text tokens tree → (place ≡ unbuilt_place text tokens) × (IsPlain tokens tree → ⊥) → IsRefusal text f
-by_section text tokens tree place f e h (p, other) = inr (subst (IsCause text) (sym (e ∙ ap (fault_at 19) p)) (unbuilt tokens tree h other))
+pub by_section : (text : List ℕ) (tokens : List Token) (tree : Source) (place : Place) (f : SourceFault) → f ≡ fault_at number.NOT_YET place → IsMeasured text tokens tree → (place ≡ unbuilt_place text tokens) × (IsPlain tokens tree → ⊥) → IsRefusal text f
+by_section text tokens tree place f e h (p, other) = inr (subst (IsCause text) (sym (e ∙ ap (fault_at number.NOT_YET) p)) (unbuilt tokens tree h other))

@@ -13,18 +13,20 @@ use Rattle.hys_parse.specs.Cause.{IsUngrammatical}
 use Rattle.hys_plain.specs.Plain.{IsPlain, unbuilt_place}
 use Rattle.hys_compile.specs.declared.fault.SourceFault.{SourceFault}
 use Rattle.hys_compile.specs.declared.fault.LimitKind.TheVariants as limit
-use Rattle.hys_compile.specs.Text.{most_bytes, most_tokens, most_nodes, most_nodes_of_one, byte_of, fault_at, over_limit, no_memory, IsCause, too_long, byte, comment, long, many, deep, syntax, nodes, expression, unbuilt}
+use Rattle.hys_compile.specs.declared.number.TheConstants as number
+use Rattle.hys_compile.specs.Faults.{fault_at, over_limit, no_memory}
+use Rattle.hys_compile.specs.Text.{most_bytes, most_tokens, most_nodes, most_nodes_of_one, byte_of, IsCause, too_long, byte, comment, long, many, deep, syntax, nodes, expression, unbuilt}
 use Rattle.hys_compile.proofs.Plain.{AreOnly}
 
 lexical : List ℕ → LexFault → SourceFault
-lexical text (lexing.Byte at) = fault_at 1 (place_at text at)
-lexical text (lexing.Comment at) = fault_at 2 (place_at text at)
-lexical text (lexing.Long at) = fault_at 3 (place_at text at)
+lexical text (lexing.Byte at) = fault_at number.BYTE (place_at text at)
+lexical text (lexing.Comment at) = fault_at number.COMMENT (place_at text at)
+lexical text (lexing.Long at) = fault_at number.LONG (place_at text at)
 lexical text lexing.Memory = no_memory
 
 -- each stage: the text is refused at it, or passes it and is judged by the next
 abbrev Judged : List ℕ → List Token → Source → SourceFault → Type 0
-Judged text ts t f = ¬ (IsPlain ts t) × (f ≡ fault_at 19 (unbuilt_place text ts))
+Judged text ts t f = ¬ (IsPlain ts t) × (f ≡ fault_at number.NOT_YET (unbuilt_place text ts))
 
 abbrev Sized : List ℕ → List Token → Source → SourceFault → Type 0
 Sized text ts t f = ((most_nodes_of_one < largest (expressions t)) × (f ≡ over_limit limit.Expression)) ⊎ ((largest (expressions t) ≤ most_nodes_of_one) × Judged text ts t f)
@@ -33,7 +35,7 @@ abbrev Measured : List ℕ → List Token → Source → SourceFault → Type 0
 Measured text ts t f = ((most_nodes < total (expressions t)) × (f ≡ over_limit limit.Nodes)) ⊎ ((total (expressions t) ≤ most_nodes) × Sized text ts t f)
 
 abbrev Parsed : List ℕ → List Token → SourceFault → Type 0
-Parsed text ts f = ((k : ℕ) × IsUngrammatical text ts k × (f ≡ fault_at 4 (place_at text (byte_of text ts k)))) ⊎ ((t : Source) × IsTreeOf text ts t × Measured text ts t f)
+Parsed text ts f = ((k : ℕ) × IsUngrammatical text ts k × (f ≡ fault_at number.SYNTAX (place_at text (byte_of text ts k)))) ⊎ ((t : Source) × IsTreeOf text ts t × Measured text ts t f)
 
 abbrev Nested : List ℕ → List Token → SourceFault → Type 0
 Nested text ts f = ((k : ℕ) × IsFirstDeep ts k × (f ≡ over_limit limit.Nesting)) ⊎ (IsShallow ts × Parsed text ts f)
@@ -70,7 +72,7 @@ sized : (text : List ℕ) (ts : List Token) (t : Source) (f g : SourceFault) →
 sized text ts t f g (inl (m, a)) (inl (n, b)) = same f g (over_limit limit.Expression) a b
 sized text ts t f g (inl (m, a)) (inr (n, b)) = absurd (omega arith)
 sized text ts t f g (inr (m, a)) (inl (n, b)) = absurd (omega arith)
-sized text ts t f g (inr (m, (p, a))) (inr (n, (q, b))) = same f g (fault_at 19 (unbuilt_place text ts)) a b
+sized text ts t f g (inr (m, (p, a))) (inr (n, (q, b))) = same f g (fault_at number.NOT_YET (unbuilt_place text ts)) a b
 
 measured : (text : List ℕ) (ts : List Token) (t : Source) (f g : SourceFault) → Measured text ts t f → Measured text ts t g → f ≡ g
 measured text ts t f g (inl (m, a)) (inl (n, b)) = same f g (over_limit limit.Nodes) a b
@@ -80,7 +82,7 @@ measured text ts t f g (inr (m, a)) (inr (n, b)) = sized text ts t f g a b
 
 parsed : (text : List ℕ) (ts : List Token) (f g : SourceFault) → AreOnly text → Parsed text ts f → Parsed text ts g → f ≡ g
 parsed text ts f g only (inl (k, m, a)) (inl (j, n, b)) =
-    same f g (fault_at 4 (place_at text (byte_of text ts k))) a (subst (λ i. g ≡ fault_at 4 (place_at text (byte_of text ts i))) (only.stuck ts j k n m) b)
+    same f g (fault_at number.SYNTAX (place_at text (byte_of text ts k))) a (subst (λ i. g ≡ fault_at number.SYNTAX (place_at text (byte_of text ts i))) (only.stuck ts j k n m) b)
 parsed text ts f g only (inl (k, m, a)) (inr (t, d, b)) = absurd (m.none t d)
 parsed text ts f g only (inr (t, d, a)) (inl (j, n, b)) = absurd (n.none t d)
 parsed text ts f g only (inr (t, d, a)) (inr (s, e, b)) = measured text ts t f g a (subst (λ x. Measured text ts x g) (only.tree ts s t e d) b)

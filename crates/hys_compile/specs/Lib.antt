@@ -1,3 +1,4 @@
 pub mod Automaton
 pub mod System
+pub mod Faults
 pub mod Text

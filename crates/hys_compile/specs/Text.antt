@@ -4,7 +4,6 @@ use Rattle.hys_number.specs.Number.{Number}
 use Rattle.hys_lex.specs.Cut.{Cut, IsFirstFault}
 use Rattle.hys_lex.specs.declared.token.Token.{Token}
 use Rattle.hys_lex.specs.declared.cut.LexFault.TheVariants as lexing
-use Rattle.hys_ast.specs.declared.place.Place.{Place}
 use Rattle.hys_ast.specs.Tree.{Source}
 use Rattle.hys_ast.specs.Places.{place_at}
 use Rattle.hys_ast.specs.Nodes.{expressions, total, largest}
@@ -18,8 +17,8 @@ use Rattle.hys_sys.specs.System.{IsSystem}
 use Rattle.hys_sys.specs.declared.system.System.{System}
 use Rattle.hys_compile.specs.Automaton.{IsExactFor}
 use Rattle.hys_compile.specs.declared.fault.SourceFault.{SourceFault}
-use Rattle.hys_compile.specs.declared.fault.Detail.TheVariants as detail
-use Rattle.hys_compile.specs.declared.fault.LimitKind.{LimitKind}
+use Rattle.hys_compile.specs.declared.number.TheConstants as number
+use Rattle.hys_compile.specs.Faults.{fault_at, over_limit, no_memory}
 use Rattle.hys_compile.specs.declared.fault.LimitKind.TheVariants as limit
 
 -- ---- the limits
@@ -73,15 +72,6 @@ pub record IsPlainText (text : List ℕ) : Type 0 where
   pub plain : IsPlain tokens tree
 
 -- ---- faults
-abbrev pub fault_at : ℕ → Place → SourceFault
-fault_at n place = record { number = n; detail = detail.At place }
-
-abbrev pub over_limit : LimitKind → SourceFault
-over_limit kind = record { number = 18; detail = detail.Limit kind }
-
-abbrev pub no_memory : SourceFault
-no_memory = record { number = 0; detail = detail.Memory }
-
 -- where token k begins, and the end of the text where there is no such token
 abbrev pub byte_of : List ℕ → List Token → ℕ → ℕ
 byte_of text tokens k = slice_index_or (map (λ t. t.from) tokens) k (length text)
@@ -90,16 +80,16 @@ byte_of text tokens k = slice_index_or (map (λ t. t.from) tokens) k (length tex
 -- each that speaks of tokens or a tree only where no cause above it stands.
 pub data IsCause (text : List ℕ) : SourceFault → Type 0 where
   too_long : most_bytes < length text → IsCause text (over_limit limit.Bytes)
-  byte : (at : ℕ) → length text ≤ most_bytes → IsFirstFault text (lexing.Byte at) → IsCause text (fault_at 1 (place_at text at))
-  comment : (at : ℕ) → length text ≤ most_bytes → IsFirstFault text (lexing.Comment at) → IsCause text (fault_at 2 (place_at text at))
-  long : (at : ℕ) → length text ≤ most_bytes → IsFirstFault text (lexing.Long at) → IsCause text (fault_at 3 (place_at text at))
+  byte : (at : ℕ) → length text ≤ most_bytes → IsFirstFault text (lexing.Byte at) → IsCause text (fault_at number.BYTE (place_at text at))
+  comment : (at : ℕ) → length text ≤ most_bytes → IsFirstFault text (lexing.Comment at) → IsCause text (fault_at number.COMMENT (place_at text at))
+  long : (at : ℕ) → length text ≤ most_bytes → IsFirstFault text (lexing.Long at) → IsCause text (fault_at number.LONG (place_at text at))
   many : (tokens : List Token) → IsLexed text tokens → most_tokens < length tokens → IsCause text (over_limit limit.Tokens)
   deep : (tokens : List Token) (k : ℕ) → IsCounted text tokens → IsFirstDeep tokens k → IsCause text (over_limit limit.Nesting)
-  syntax : (tokens : List Token) (k : ℕ) → IsCounted text tokens → IsUngrammatical text tokens k → IsCause text (fault_at 4 (place_at text (byte_of text tokens k)))
+  syntax : (tokens : List Token) (k : ℕ) → IsCounted text tokens → IsUngrammatical text tokens k → IsCause text (fault_at number.SYNTAX (place_at text (byte_of text tokens k)))
   nodes : (tokens : List Token) (tree : Source) → IsParsed text tokens tree → most_nodes < total (expressions tree) → IsCause text (over_limit limit.Nodes)
   expression : (tokens : List Token) (tree : Source) → IsParsed text tokens tree → total (expressions tree) ≤ most_nodes →
       most_nodes_of_one < largest (expressions tree) → IsCause text (over_limit limit.Expression)
-  unbuilt : (tokens : List Token) (tree : Source) → IsMeasured text tokens tree → ¬ (IsPlain tokens tree) → IsCause text (fault_at 19 (unbuilt_place text tokens))
+  unbuilt : (tokens : List Token) (tree : Source) → IsMeasured text tokens tree → ¬ (IsPlain tokens tree) → IsCause text (fault_at number.NOT_YET (unbuilt_place text tokens))
 
 -- what an error may be: a cause of the text, or want of memory
 abbrev pub IsRefusal : List ℕ → SourceFault → Type 0

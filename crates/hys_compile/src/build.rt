@@ -26,8 +26,8 @@ fn add_columns(
     Ok(())
 }
 
-// The system of a plain source: its states and inputs are the columns, and no row is needed.
-pub fn system(alloc: Global, parts: PlainParts) -> Result<System, AllocError>
+// Builds the system of a plain source: its states and inputs are the columns, and no row is needed.
+pub fn build(alloc: Global, parts: PlainParts) -> Result<System, AllocError>
     requires { length parts.states + length parts.inputs < 2 ^ 32 }
     ensures { IfOk result (λ s. s ≡ system_of parts) }
 {

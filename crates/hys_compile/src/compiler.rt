@@ -1,48 +1,56 @@
 ghost use Rattle.std.specs.Prelude.{◌≡◌, ◌⊎◌, IfOk, IfErr};
 ghost use Rattle.std.specs.Result.{IsErrAnd};
 ghost use Rattle.hys_ast.specs.Seen.{source_of};
-ghost use Rattle.hys_compile.specs.Text.{IsCompiled, IsCause, IsRefusal, IsMeasured, IsPlainText, no_memory};
+ghost use Rattle.hys_plain.specs.Meant.{PartsOf};
+ghost use Rattle.hys_plain.specs.Plain.{IsPlain};
+ghost use Rattle.hys_compile.specs.Faults.{no_memory};
+ghost use Rattle.hys_compile.specs.Text.{IsCompiled, IsCause, IsRefusal, IsMeasured, IsPlainText};
 ghost use Rattle.hys_compile.specs.declared.fault.SourceFault.{SourceFault as Fault};
 
-use crate::build::system;
+use crate::build::build;
 use crate::fault::SourceFault;
-use crate::front::{counted, measured};
-use crate::laws;
+use crate::front::{count, lex, measure, parse, size};
+use crate::{laws, number};
 use hys_ast::Source;
 use hys_lex::Token;
-use hys_plain::{PlainFault, plain};
+use hys_plain::{PlainFault, PlainParts, plain};
 use hys_sys::System;
-use std::alloc::{AllocError, Global};
+use std::alloc::Global;
 
-// The system of a tree, where it is that of a plain source.
+// Takes the source apart, where it is plain.
 #[tactic(auto, using(crate::proofs::Causes::by_memory, crate::proofs::Causes::by_section))]
-fn built(
+fn judge(
     alloc: Global,
     text: &[u8],
     tokens: &[Token],
     source: &Source,
-) -> Result<System, SourceFault>
+) -> Result<PlainParts, SourceFault>
     requires { IsMeasured text.now tokens.now (source_of source.now) }
-    ensures done { IfOk result (IsCompiled text.now) }
-    ensures refused { IfErr result (IsRefusal text.now) }
+    ensures plain { IfOk result (λ p. IsPlain tokens.now (source_of source.now)) }
+    ensures parts { IfOk result (PartsOf (source_of source.now)) }
+    ensures err { IfErr result (IsRefusal text.now) }
 {
     match plain(alloc, tokens, text, source) {
-        Ok(parts) => match system(alloc, parts) {
-            Ok(system) => Ok(system),
-            Err(AllocError) => Err(SourceFault::memory()),
-        },
-        Err(PlainFault::NotYet(place)) => Err(SourceFault::placed(SourceFault::NOT_YET, place)),
+        Ok(parts) => Ok(parts),
+        Err(PlainFault::NotYet(place)) => Err(SourceFault::placed(number::NOT_YET, place)),
         Err(PlainFault::Memory) => Err(SourceFault::memory()),
     }
 }
 
-fn read_and_built(alloc: Global, text: &[u8]) -> Result<System, SourceFault>
+// The stages in their order, each with its own faults.
+#[tactic(auto, using(crate::proofs::Causes::by_memory))]
+fn run_stages(alloc: Global, text: &[u8]) -> Result<System, SourceFault>
     ensures done { IfOk result (IsCompiled text.now) }
     ensures refused { IfErr result (IsRefusal text.now) }
 {
-    let tokens = counted(alloc, text)?;
-    let source = measured(alloc, text, tokens.as_slice())?;
-    built(alloc, text, tokens.as_slice(), &source)
+    size(text)?;
+    let cut = lex(alloc, text)?;
+    let tokens = cut.as_slice();
+    count(text, tokens)?;
+    let source = parse(alloc, text, tokens)?;
+    measure(text, tokens, &source)?;
+    let parts = judge(alloc, text, tokens, &source)?;
+    Ok(build(alloc, parts)?)
 }
 
 /// The system of a plain source, from its text.
@@ -66,5 +74,5 @@ pub fn compile(alloc: Global, text: &[u8]) -> Result<System, SourceFault>
     ensures accepts { IsPlainText text.now → IfErr result (λ f. f ≡ no_memory) }
 {
     laws::one_cause();
-    read_and_built(alloc, text)
+    run_stages(alloc, text)
 }

@@ -1,7 +1,11 @@
 ghost use Rattle.std.specs.Prelude.{◌≡◌};
-ghost use Rattle.hys_compile.specs.Text.{fault_at, over_limit, no_memory};
+ghost use Rattle.hys_compile.specs.Faults.{fault_at, over_limit, no_memory};
 
+use crate::number;
 use hys_ast::Place;
+use hys_base::{List, Text};
+use hys_frac::Frac;
+use hys_lin::Lost;
 use std::alloc::{AllocError, AllocFailed};
 
 /// What is counted of a source and passes its limit.
@@ -17,46 +21,42 @@ pub enum LimitKind {
     Nodes,
     /// Nodes of one expression, at most 1,000.
     Expression,
+    /// Declared names, at most 200.
+    Names,
 }
 
 /// What a fault shows.
-#[derive(Clone, Copy, Debug, PartialEq, Eq)]
+#[derive(Debug, PartialEq, Eq, Drop)]
 pub enum Detail {
     /// The place of the fault.
     At(Place),
+    /// The name that is missing.
+    Named(Text),
+    /// The names of a circle.
+    Names(List<Text>),
+    /// A name's place, and the low and the high end of its bounds.
+    Ends(Place, Frac, Frac),
+    /// The place of a literal that doesn't fit.
+    Literal(Place),
+    /// A place, and two operands whose result doesn't fit.
+    Range(Place, Lost),
+    /// A name's place, and a tolerance that isn't above 0.
+    Tolerance(Place, Frac),
     /// The limit that is passed.
     Limit(LimitKind),
     /// Nothing: memory was wanting.
     Memory,
 }
 
-/// Why a source is refused. The number is that of the kind of fault: 1 byte, 2 comment, 3 long,
-/// 4 syntax, 18 limit, 19 not yet, and 0 at want of memory alone.
-#[derive(Clone, Copy, Debug, PartialEq, Eq)]
+/// Why a source is refused. The number is that of the fault in the list of the module [`number`],
+/// and 0 at want of memory alone.
+#[derive(Debug, PartialEq, Eq, Drop)]
 pub struct SourceFault {
     pub number: u8,
     pub detail: Detail,
 }
 
 impl SourceFault {
-    /// No blank, comment or token begins at the place.
-    pub const BYTE: u8 = 1;
-
-    /// The comment that begins at the place has no end.
-    pub const COMMENT: u8 = 2;
-
-    /// The name or literal that begins at the place is too long.
-    pub const LONG: u8 = 3;
-
-    /// No source goes on with the token at the place, or with the end of the text there.
-    pub const SYNTAX: u8 = 4;
-
-    /// A limit is passed.
-    pub const LIMIT: u8 = 18;
-
-    /// The source is one that isn't built yet.
-    pub const NOT_YET: u8 = 19;
-
     // A fault of this number at a place.
     pub(crate) fn placed(number: u8, place: Place) -> SourceFault
         ensures { result ≡ fault_at number place }
@@ -72,7 +72,7 @@ impl SourceFault {
         ensures { result ≡ over_limit kind }
     {
         SourceFault {
-            number: SourceFault::LIMIT,
+            number: number::LIMIT,
             detail: Detail::Limit(kind),
         }
     }

@@ -1,6 +1,6 @@
 //! What holds of texts, of plain sources and of the systems of their parts, as calls that do nothing.
 
-ghost use Rattle.std.specs.Prelude.{◌≡◌, ◌≤◌, ℕ, List};
+ghost use Rattle.std.specs.Prelude.{◌≡◌, ◌≤◌, ℕ, List, length, map};
 ghost use Rattle.std.specs.List.{AllByRecursion};
 ghost use Rattle.hys_number.specs.Number.{Number};
 ghost use Rattle.hys_lex.specs.declared.token.Token.{Token};
@@ -13,6 +13,7 @@ ghost use Rattle.hys_plain.specs.declared.parts.PlainParts.{PlainParts};
 ghost use Rattle.hys_sys.specs.System.{IsSystem};
 ghost use Rattle.hys_compile.specs.Automaton.{IsExactFor};
 ghost use Rattle.hys_compile.specs.System.{system_of};
+ghost use Rattle.hys_compile.specs.Faults.{listed, named, words_of};
 ghost use Rattle.hys_compile.specs.Text.{IsAcceptedText, IsCause, IsPlainText};
 ghost use Rattle.hys_compile.specs.declared.fault.SourceFault.{SourceFault as Fault};
 
@@ -27,6 +28,15 @@ pub fn exact_for_plain_source()
     ensures exact { (tokens : List Token) (s : Source) (p : PlainParts) → IsPlain tokens s → PartsOf s p → (tolerance : Number) → IsExactFor tolerance s (system_of p) }
     ensures accepted { (tokens : List Token) (s : Source) → IsPlain tokens s → total (expressions s) ≤ 4000 → AllByRecursion (λ e. nodes e ≤ 1000) (expressions s) → Accepted s }
     ensures accepted_text { (text : List ℕ) → IsPlainText text → IsAcceptedText text }
+{}
+
+/// There are twenty faults, and each constant of the module `number` is the number of the fault
+/// that it names, in the order of the list.
+#[tactic(auto, unfolding(crate::specs::Faults::listed, crate::specs::Faults::named))]
+pub fn list_faults()
+    ensures faults { length listed ≡ 20 }
+    ensures names { map (λ p. p.1) named ≡ listed }
+    ensures numbers { map (λ p. words_of p.0) named ≡ listed }
 {}
 
 /// A text has at most one cause to be refused, and a plain one has none.

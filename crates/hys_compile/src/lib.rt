@@ -6,9 +6,12 @@ mod compiler;
 mod fault;
 mod front;
 pub mod laws;
+mod naming;
+pub mod number;
 #[cfg(test)]
 mod tests;
 
 pub use compiler::compile;
 pub use fault::{Detail, LimitKind, SourceFault};
 pub use front::MOST_BYTES;
+pub use naming::name_fault;

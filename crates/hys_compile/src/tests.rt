@@ -14,6 +14,7 @@ enum Answer {
     Placed(u8, u32, u32),
     Over(LimitKind),
     Memory,
+    Other(u8),
 }
 
 fn judged(alloc: Global, text: &[u8]) -> Answer {
@@ -23,6 +24,12 @@ fn judged(alloc: Global, text: &[u8]) -> Answer {
             Detail::At(Place { line, col, .. }) => Answer::Placed(number, line, col),
             Detail::Limit(kind) => Answer::Over(kind),
             Detail::Memory => Answer::Memory,
+            Detail::Named(_)
+            | Detail::Names(_)
+            | Detail::Ends(..)
+            | Detail::Literal(_)
+            | Detail::Range(..)
+            | Detail::Tolerance(..) => Answer::Other(number),
         },
     }
 }

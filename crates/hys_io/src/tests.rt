@@ -86,36 +86,35 @@ fn a_sink_in_memory(rt: HostRuntime) -> Result<(), Fail> {
     Ok(())
 }
 
+// So many bytes.
+fn counting_bytes(alloc: Global, count: u32) -> Result<Vec<u8>, AllocError> {
+    let mut bytes = Vec::new(alloc);
+    for place in 0..count {
+        bytes.push((place % 251) as u8)?;
+    }
+    Ok(bytes)
+}
+
 #[test]
 fn files_of_the_system(rt: HostRuntime) -> Result<(), Fail> {
     let alloc = rt.alloc();
-    let mut text = Vec::new(alloc);
-    for place in 0..200_000u32 {
-        text.push((place % 251) as u8)?;
-    }
     let _ = fs::remove_dir_all(&rt, "folder");
     fs::create_dir(&rt, "folder")?;
     let mut files = DiskFiles::new(rt.clone()?);
-    assert_eq!(rt; files.put("folder/long", &text), Ok(()));
-    let limits = [
-        (199_999, Err(ReadFault::TooLong)),
-        (200_000, Ok(())),
-        (200_001, Ok(())),
-    ];
-    for (limit, want) in limits {
-        match read_all(alloc, &mut files, "folder/long", limit) {
-            Ok(bytes) => {
-                assert_eq!(rt; want, Ok(()));
-                assert!(rt; bytes.as_slice() == text.as_slice());
+    for count in [200_000u32, 65_537, 65_536, 65_535, 1, 0] {
+        let bytes = counting_bytes(alloc, count)?;
+        assert_eq!(rt; files.put("folder/file", &bytes), Ok(()));
+        for limit in [count as u64, count as u64 + 1] {
+            match read_all(alloc, &mut files, "folder/file", limit) {
+                Ok(found) => assert!(rt; found.as_slice() == bytes.as_slice(), "{count}"),
+                Err(fault) => assert_eq!(rt; Err(fault), Ok(()), "{count}"),
             }
-            Err(fault) => assert_eq!(rt; want, Err(fault)),
+        }
+        if count > 0 {
+            let short = read_all(alloc, &mut files, "folder/file", count as u64 - 1);
+            assert!(rt; matches!(&short, Err(ReadFault::TooLong)), "{count}");
         }
     }
-    assert_eq!(rt; files.put("folder/long", b"short"), Ok(()));
-    assert_eq!(rt;
-        fs::read(&rt, "folder/long")?.as_slice(),
-        b"short".as_slice()
-    );
     assert_eq!(rt; files.put("folder", b""), Err(Failure::Fault));
     for name in ["folder", "none", "folder/none", ""] {
         let mut into = [0u8; 2];
@@ -125,7 +124,8 @@ fn files_of_the_system(rt: HostRuntime) -> Result<(), Fail> {
             "{name}"
         );
     }
-    fs::remove_dir_all(&rt, "folder")?;
+    fs::remove_file(&rt, "folder/file")?;
+    fs::remove_dir(&rt, "folder")?;
     Ok(())
 }
 

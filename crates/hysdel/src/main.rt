@@ -1,15 +1,21 @@
 //! The program: the system's files, the standard output, and the words after the program's name.
 #![tactic(auto)]
 
+ghost use Rattle.std.specs.Prelude.{◌≡◌, List, ℕ, Some, None, map, string_bytes, IfOk, OnErr};
+ghost use Rattle.hys_app.specs.Statuses.{number_of};
+ghost use Rattle.hys_app.specs.Ends.{outside, Ends};
+ghost use Rattle.hys_app.specs.Compiling.{IsCompileOutcome, IsUsage};
+ghost use Rattle.hys_app.specs.Words.{form_of};
+
 use hys_app::{Status, run};
-use hys_io::{DiskFiles, StdSink};
+use hys_io::{DiskFiles, Files, Sink, StdSink};
 use std::alloc::{AllocError, Global};
 use std::env;
 use std::process::ExitCode;
 
 // The words after the program's name. Where one of them isn't UTF-8 there are none, so that they
 // match no form.
-fn words(alloc: Global, rt: &HostRuntime) -> Result<Vec<String>, AllocError> {
+fn read_words(alloc: Global, rt: &HostRuntime) -> Result<Vec<String>, AllocError> {
     let mut words = Vec::new(alloc);
     if let Ok(all) = env::args(rt) {
         for word in all.skip(1) {
@@ -19,13 +25,32 @@ fn words(alloc: Global, rt: &HostRuntime) -> Result<Vec<String>, AllocError> {
     Ok(words)
 }
 
+// The exit status: the number of the run's status, and that of want of memory where there was none
+// for the words.
+fn end<F: Files, S: Sink>(
+    alloc: Global,
+    words: Result<Vec<String>, AllocError>,
+    files: &mut F,
+    out: &mut S,
+) -> u8
+    ensures memory { OnErr words (result ≡ 10) }
+    ensures no_form { IfOk words (λ w. form_of (map string_bytes w.items) ≡ None →
+        (status : Status) × (result ≡ number_of status)
+        × Ends IsUsage status (outside F.Files S.Sink files.old out.old) (outside F.Files S.Sink files.new out.new)) }
+    ensures compile { IfOk words (λ w. (source target : List ℕ) → form_of (map string_bytes w.items) ≡ Some (source, target) →
+        (status : Status) × (result ≡ number_of status)
+        × Ends (IsCompileOutcome (F.held files.old) source target) status
+        (outside F.Files S.Sink files.old out.old) (outside F.Files S.Sink files.new out.new)) }
+{
+    match words {
+        Ok(words) => run(alloc, &words, files, out).number(),
+        Err(AllocError) => Status::Memory.number(),
+    }
+}
+
 fn main(rt: HostRuntime) -> ExitCode {
-    let alloc = rt.alloc();
+    let words = read_words(rt.alloc(), &rt);
     let mut files = DiskFiles::new(&rt);
-    let mut sink = StdSink::new(&rt);
-    let status = match words(alloc, &rt) {
-        Ok(words) => run(alloc, &words, &mut files, &mut sink),
-        Err(AllocError) => Status::Memory,
-    };
-    ExitCode::from(status as u8)
+    let mut out = StdSink::new(&rt);
+    ExitCode::from(end(rt.alloc(), words, &mut files, &mut out))
 }

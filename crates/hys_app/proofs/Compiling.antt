@@ -1,0 +1,129 @@
+-- From what the calls say to the lawful outcomes.
+use Rattle.std.proofs.Common.{◌≡◌, ◌≢◌, ℕ, List, length, Option, None, Some, ◌<◌, ◌≤◌, ◌⊎◌, refl, sym, ap, subst, ◌∙◌, inl, inr, arith, Result, Ok, Err, IfOk}
+use Rattle.std.specs.FinMap as map
+use Rattle.hys_io.specs.Outside.{Named, Rose, IfHolds}
+use Rattle.std.specs.declared.alloc.AllocError.{AllocError}
+use Rattle.hys_sys.specs.declared.system.System.{System}
+use Rattle.hys_compile.specs.declared.fault.SourceFault.{SourceFault}
+use Rattle.hys_compile.specs.declared.fault.LimitKind.TheVariants.{Bytes}
+use Rattle.hys_compile.specs.Faults.{over_limit, no_memory}
+use Rattle.hys_compile.specs.Text.{most_bytes, IsCause, IsCompiled, IsPlainText, IsRefusal, too_long}
+use Rattle.hys_app.specs.Lines.{usage_line, read_line, refused_line}
+use Rattle.hys_app.specs.Ends.{IsReached}
+use Rattle.hys_app.specs.Compiling.{saying, CausedBy, CompiledFrom, HoldsPlain, IsPutFor, IsUsage, IsJudged, refused, compiled, IsCompileOutcome, unread, read}
+use Rattle.hys_app.specs.declared.status.Status.TheVariants.{Done, Usage, Read, Source}
+use Rattle.hys_app.specs.declared.outcome.Outcome.{Outcome}
+
+refused_one : (text target : List ℕ) (fault : SourceFault) (o : Outcome) → o ≡ saying Source (refused_line fault) → IsRefusal text fault →
+    (fault ≡ no_memory → ⊥) → (IsPlainText text → fault ≡ no_memory) → IsJudged (IsCause text) (IsCompiled text) (IsPlainText text) target o
+refused_one text target fault o e (inl memory) other plain = absurd (other memory)
+refused_one text target fault o e (inr cause) other plain = subst (IsJudged (IsCause text) (IsCompiled text) (IsPlainText text) target) (sym e) (refused fault cause (λ p. other (plain p)))
+
+pub compiled_of : (text target : List ℕ) (system : System) (o : Outcome) → IsPutFor system target o → IsCompiled text system →
+    IsJudged (IsCause text) (IsCompiled text) (IsPlainText text) target o
+compiled_of text target system o e c = subst (IsJudged (IsCause text) (IsCompiled text) (IsPlainText text) target) (sym e) (compiled system c)
+
+pub refused_of : (text target : List ℕ) (fault : SourceFault) (x : Result Outcome AllocError) → IfOk x (λ o. o ≡ saying Source (refused_line fault)) →
+    IfOk x (λ o. fault ≢ no_memory) → IsRefusal text fault → (IsPlainText text → fault ≡ no_memory) → IfOk x (IsJudged (IsCause text) (IsCompiled text) (IsPlainText text) target)
+refused_of text target fault (Ok o) e other h plain = refused_one text target fault o e h other plain
+refused_of text target fault (Err a) e other h plain = tt
+
+-- ---- from the bytes that were read to the source that the files tell
+-- what holds of the bytes read holds of the file
+of_file : (held : Option Named) (name text : List ℕ) (P : List ℕ → Type 0) → IfHolds held name (λ file. text ≡ file) → P text → IfHolds held name P
+of_file None name text P h p = tt
+of_file (Some files) name text P (file, there, e) p = (file, there, subst P e p)
+
+some_same : {A : Type 0} (x y : A) → Some x ≡ Some y → x ≡ y
+some_same x y e = cc
+
+-- bytes of which something holds aren't plain where that excludes a plain text
+not_plain : (held : Option Named) (name : List ℕ) (P : List ℕ → Type 0) → ((file : List ℕ) → P file → IsPlainText file → ⊥) → IfHolds held name P → HoldsPlain held name → ⊥
+not_plain None name P never h p = absurd (cc p.told)
+not_plain (Some files) name P never (file, there, q) p =
+    never file q (subst IsPlainText (some_same p.file file (sym p.there ∙ (ap (λ (m : Named). map.get m name) (sym (some_same files p.files p.told)) ∙ there))) p.plain)
+
+compiled_from : (held : Option Named) (name text : List ℕ) (system : System) → IfHolds held name (λ file. text ≡ file) → IsCompiled text system → CompiledFrom held name system
+compiled_from held name text system h c = (c.lawful, of_file held name text (λ file. IsCompiled file system) h c)
+
+judged_from : (held : Option Named) (name text target : List ℕ) (o : Outcome) → IfHolds held name (λ file. text ≡ file) →
+    IsJudged (IsCause text) (IsCompiled text) (IsPlainText text) target o → IsJudged (CausedBy held name) (CompiledFrom held name) (HoldsPlain held name) target o
+judged_from held name text target o h (refused fault cause never) =
+    refused fault (of_file held name text (λ file. IsCause file fault) h cause)
+    (not_plain held name (λ file. text ≡ file) (λ file e p. never (subst IsPlainText (sym e) p)) h)
+judged_from held name text target o h (compiled system c) = compiled system (compiled_from held name text system h c)
+
+-- ---- outcomes that are reached
+reached_alone : (L : Outcome → Type 0) (o : Outcome) (r r' : ℕ) → (o.status ≡ Done) ⊎ (o.status ≡ Usage) ⊎ (o.status ≡ Source) → L o → r' ≡ r → IsReached L o r r'
+reached_alone L o r r' (inl e) l c = record {
+  lawful = l;
+  reads = record { failed = λ d. absurd (cc); unput = λ d. absurd (cc); calm = λ d. c; not_write = λ d. cc; not_memory = λ d. cc };
+}
+reached_alone L o r r' (inr (inl e)) l c = record {
+  lawful = l;
+  reads = record { failed = λ d. absurd (cc); unput = λ d. absurd (cc); calm = λ d. c; not_write = λ d. cc; not_memory = λ d. cc };
+}
+reached_alone L o r r' (inr (inr e)) l c = record {
+  lawful = l;
+  reads = record { failed = λ d. absurd (cc); unput = λ d. absurd (cc); calm = λ d. c; not_write = λ d. cc; not_memory = λ d. cc };
+}
+
+usage_one : (o : Outcome) (r r' : ℕ) → IsUsage o → r' ≡ r → IsReached IsUsage o r r'
+usage_one o r r' e c = reached_alone IsUsage o r r' (inr (inl (ap (λ (p : Outcome). p.status) e))) e c
+
+unread_one : (held : Option Named) (source target : List ℕ) (o : Outcome) (r r' : ℕ) → o ≡ saying Read (read_line source) → Rose r r' →
+    IsReached (IsCompileOutcome held source target) o r r'
+unread_one held source target o r r' e rose =
+    let s : o.status ≡ Read = ap (λ (p : Outcome). p.status) e in
+    record {
+      lawful = subst (IsCompileOutcome held source target) (sym e) unread;
+      reads = record { failed = λ d. rose; unput = λ d. ap (λ (p : Outcome). p.file) e; calm = λ d. absurd (d s); not_write = λ d. cc; not_memory = λ d. cc };
+    }
+
+long_one : (held : Option Named) (source target : List ℕ) (fault : SourceFault) (o : Outcome) (r r' : ℕ) → o ≡ saying Source (refused_line fault) →
+    fault ≡ over_limit Bytes → IfHolds held source (λ file. most_bytes < length file) → r' ≡ r → IsReached (IsCompileOutcome held source target) o r r'
+long_one held source target fault o r r' e f long c =
+    let cause : CausedBy held source fault = over_file held source fault f long in
+    let never : HoldsPlain held source → ⊥ = not_plain held source (λ file. most_bytes < length file) long_not_plain long in
+    let l : IsCompileOutcome held source target o =
+    read o (subst (IsJudged (CausedBy held source) (CompiledFrom held source) (HoldsPlain held source) target) (sym e) (refused fault cause never)) in
+    reached_alone (IsCompileOutcome held source target) o r r' (inr (inr (ap (λ (p : Outcome). p.status) e))) l c
+  where
+    over_file : (held : Option Named) (name : List ℕ) (fault : SourceFault) → fault ≡ over_limit Bytes → IfHolds held name (λ file. most_bytes < length file) → CausedBy held name fault
+    over_file None name fault f h = tt
+    over_file (Some files) name fault f (file, there, more) = (file, there, subst (IsCause file) (sym f) (too_long more))
+
+    long_not_plain : (file : List ℕ) → most_bytes < length file → IsPlainText file → ⊥
+    long_not_plain file more p = omega (arith, p.measured.parsed.counted.lexed.bytes, more)
+
+judged_status : (Has : SourceFault → Type 0) (Means : System → Type 0) (Plain : Type 0) (target : List ℕ) (o : Outcome) → IsJudged Has Means Plain target o →
+    (o.status ≡ Done) ⊎ (o.status ≡ Usage) ⊎ (o.status ≡ Source)
+judged_status Has Means Plain target o (refused fault cause never) = inr (inr refl)
+judged_status Has Means Plain target o (compiled system c) = inl refl
+
+read_one : (held : Option Named) (source target text seen : List ℕ) (o : Outcome) (r r' : ℕ) → IsJudged (IsCause seen) (IsCompiled seen) (IsPlainText seen) target o →
+    seen ≡ text → IfHolds held source (λ file. text ≡ file) → r' ≡ r → IsReached (IsCompileOutcome held source target) o r r'
+read_one held source target text seen o r r' j s h c =
+    let k : IsJudged (IsCause text) (IsCompiled text) (IsPlainText text) target o = subst (λ t. IsJudged (IsCause t) (IsCompiled t) (IsPlainText t) target o) s j in
+    reached_alone (IsCompileOutcome held source target) o r r' (judged_status (IsCause text) (IsCompiled text) (IsPlainText text) target o k)
+    (read o (judged_from held source text target o h k)) c
+
+-- ---- what is reached, memory sufficing
+pub reached_usage : (x : Result Outcome AllocError) (r r' : ℕ) → IfOk x IsUsage → r' ≡ r → IfOk x (λ o. IsReached IsUsage o r r')
+reached_usage (Ok o) r r' h c = usage_one o r r' h c
+reached_usage (Err e) r r' h c = tt
+
+pub reached_unread : (held : Option Named) (source target : List ℕ) (x : Result Outcome AllocError) (r r' : ℕ) → IfOk x (λ o. o ≡ saying Read (read_line source)) → Rose r r' →
+    IfOk x (λ o. IsReached (IsCompileOutcome held source target) o r r')
+reached_unread held source target (Ok o) r r' h rose = unread_one held source target o r r' h rose
+reached_unread held source target (Err e) r r' h rose = tt
+
+pub reached_long : (held : Option Named) (source target : List ℕ) (fault : SourceFault) (x : Result Outcome AllocError) (r r' : ℕ) → IfOk x (λ o. o ≡ saying Source (refused_line fault)) →
+    fault ≡ over_limit Bytes → IfHolds held source (λ file. most_bytes < length file) → r' ≡ r → IfOk x (λ o. IsReached (IsCompileOutcome held source target) o r r')
+reached_long held source target fault (Ok o) r r' h f long c = long_one held source target fault o r r' h f long c
+reached_long held source target fault (Err e) r r' h f long c = tt
+
+pub reached_read : (held : Option Named) (source target text seen : List ℕ) (x : Result Outcome AllocError) (r r' : ℕ) → IfOk x (IsJudged (IsCause seen) (IsCompiled seen) (IsPlainText seen) target) →
+    seen ≡ text → IfHolds held source (λ file. text ≡ file) → r' ≡ r → IfOk x (λ o. IsReached (IsCompileOutcome held source target) o r r')
+reached_read held source target text seen (Ok o) r r' h s f c = read_one held source target text seen o r r' h s f c
+reached_read held source target text seen (Err e) r r' h s f c = tt
