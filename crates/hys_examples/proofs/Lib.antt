@@ -14,3 +14,4 @@ pub mod Keeping
 pub mod Folded
 pub mod Unique
 pub mod Parts
+pub mod Tolerant

@@ -6,3 +6,4 @@ pub mod Systems
 pub mod Ranges
 pub mod RowNumbers
 pub mod Fitting
+pub mod Last

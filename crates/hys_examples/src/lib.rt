@@ -6,6 +6,7 @@ pub mod casts;
 pub mod choices;
 pub mod fitting;
 pub mod guards;
+pub mod last;
 pub mod rules;
 pub mod sums;
 pub mod systems;
