@@ -12,8 +12,8 @@ ghost use Rattle.hys_lin.specs.Stated.{AreRows, EachBelow};
 use crate::literal::{Literal, Logic};
 use crate::row::{Part, Sign, nothing, row_of};
 use hys_base::List;
-use hys_lin::Row;
 use hys_formula::{Connective, Formula};
+use hys_lin::Row;
 use std::alloc::{AllocError, Global};
 
 // The literal of a formula whose rows were made, and the next free column.

@@ -3,8 +3,8 @@ ghost use Rattle.hys_formula.specs.Formulas.{tree_of, connectives, EachName};
 ghost use Rattle.hys_logic.specs.Literals.{column_in};
 
 use crate::{Logic, rows_of};
-use hys_lin::Row;
 use hys_formula::{Connective, Formula};
+use hys_lin::Row;
 use std::alloc::{AllocError, Global};
 
 // The number of connectives, if it is small and the names have columns below `first_free`.
