@@ -1,1 +1,2 @@
 pub mod Smallest
+pub mod Defined

@@ -2,3 +2,4 @@ pub mod Programs
 pub mod Example
 pub mod Steps
 pub mod Orders
+pub mod Places
