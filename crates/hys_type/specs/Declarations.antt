@@ -1,0 +1,105 @@
+-- The checks of declarations: each name once, values of parameters, and boxes.
+use Rattle.std.specs.Prelude.{ℕ, List, [], ◌∷◌, ◌++◌, Option, Some, None, Bool, true, false, ◌&&◌, not, map, cond, filter, nat_lt, length}
+use Rattle.std.specs.Str.{bytes_eq}
+use Rattle.std.specs.List.{list_any}
+use Rattle.std.specs.declared.cmp.Ordering.{Ordering}
+use Rattle.std.specs.declared.cmp.Ordering.TheVariants.{Less, Equal, Greater}
+use Rattle.hys_number.specs.Number.{Number}
+use Rattle.hys_frac.specs.Compare.{number_cmp}
+use Rattle.hys_ast.specs.declared.place.Place.{Place}
+use Rattle.hys_ast.specs.declared.source.Kind.{Kind}
+use Rattle.hys_ast.specs.declared.source.Kind.TheVariants as kind
+use Rattle.hys_ast.specs.Tree.{Tree, Decl}
+use Rattle.hys_ast.specs.Tree as tree
+use Rattle.hys_meaning.specs.Values.{Assignment, value, given}
+use Rattle.hys_meaning.specs.Names.{is_parameter}
+use Rattle.hys_meaning.specs.Typed.{has_box}
+use Rattle.hys_type.specs.Sorts.{Sort, is_real, is_bool}
+use Rattle.hys_type.specs.Faults.{Check, check}
+use Rattle.hys_type.specs.Constants.{known_values, known_sort, constant_checks}
+use Rattle.hys_type.specs.declared.constant.Known.{Known}
+use Rattle.hys_type.specs.declared.fault.TypeFault.TheVariants as fault
+
+-- ---- names
+-- at most 200 names are declared
+abbrev pub most_names : ℕ
+most_names = 200
+
+-- the name differs from those before, and there aren't too many
+abbrev pub name_checks : List Decl → Decl → List Check
+name_checks before d = check (not (list_any (λ m. bytes_eq d.name m.name) before)) (fault.Twice d.place) ∷ check (nat_lt (length before) most_names) fault.Limit ∷ []
+
+-- ---- expressions
+abbrev pub place_of : Tree → Place
+place_of (tree.Number text p) = p
+place_of (tree.Name n p) = p
+place_of (tree.Truth b p) = p
+place_of (tree.Cast n p) = p
+place_of (tree.Unary op a p) = p
+place_of (tree.Binary op a b p) = p
+
+abbrev pub is_of_kind : Kind → Sort → Bool
+is_of_kind kind.Real s = is_real s
+is_of_kind kind.Bool s = is_bool s
+
+-- a constant expression of the kind
+abbrev pub constant_of_kind : Kind → List Known → Tree → List Check
+constant_of_kind k ks e = constant_checks ks e ++ check (is_of_kind k (known_sort ks e)) (fault.Kind (place_of e)) ∷ []
+
+abbrev pub if_some : {A : Type 0} → (A → List Check) → Option A → List Check
+if_some f (Some a) = f a
+if_some f None = []
+
+abbrev pub is_given : Option Tree → Bool
+is_given (Some e) = true
+is_given None = false
+
+-- ---- what is known
+-- a declared name that is no parameter
+abbrev pub other : Decl → Known
+other d = record { text = d.name; kind = d.kind; value = None }
+
+abbrev pub others : List Decl → List Known
+others ds = map other (filter (λ d. not (is_parameter d.section)) ds)
+
+abbrev pub given_value : Kind → Assignment → Option Tree → Option Number
+given_value k w (Some e) = Some (given k w e)
+given_value k w None = None
+
+-- one parameter more, whose value is that under the known ones
+abbrev pub with_parameter : List Known → Decl → List Known
+with_parameter ks d = cond (is_parameter d.section) (ks ++ record { text = d.name; kind = d.kind; value = given_value d.kind (known_values ks) d.value } ∷ []) ks
+
+abbrev pub with_parameters : List Known → List Decl → List Known
+with_parameters ks [] = ks
+with_parameters ks (d ∷ ds) = with_parameters (with_parameter ks d) ds
+
+-- all names that are no parameters, and the parameters among some declarations
+abbrev pub known : List Decl → List Decl → List Known
+known all ds = with_parameters (others all) ds
+
+-- ---- values and boxes
+-- a parameter has a value of its kind, which names parameters declared before it
+abbrev pub value_checks : List Decl → List Decl → Decl → List Check
+value_checks all before d = cond (is_parameter d.section) (check (is_given d.value) (fault.NoValue d.place) ∷ if_some (constant_of_kind d.kind (known all before)) d.value) []
+
+abbrev pub at_most : Ordering → Bool
+at_most Less = true
+at_most Equal = true
+at_most Greater = false
+
+-- the low end is at most the high one
+abbrev pub ends_checks : List Known → Place → Option Tree → Option Tree → List Check
+ends_checks ks p (Some low) (Some high) =
+    check (at_most (number_cmp (value (known_values ks) low) (value (known_values ks) high))) (fault.EmptyBounds p (value (known_values ks) low) (value (known_values ks) high)) ∷ []
+ends_checks ks p (Some low) None = []
+ends_checks ks p None high = []
+
+abbrev pub bounds_checks : List Known → Decl → List Check
+bounds_checks ks d =
+    check (is_given d.low && is_given d.high) (fault.NoBounds d.place)
+    ∷ (if_some (constant_of_kind kind.Real ks) d.low ++ (if_some (constant_of_kind kind.Real ks) d.high ++ ends_checks ks d.place d.low d.high))
+
+-- a real state or input has bounds, which are real and constant
+abbrev pub box_checks : List Known → Decl → List Check
+box_checks ks d = cond (has_box d) (bounds_checks ks d) []
