@@ -41,7 +41,7 @@ no_zero a h e = never (sym h ∙ ap is_zero e ∙ zero_is)
     never e = absurd (cc)
 
 -- ---- an operand
-sort_is : (ks : List Known) (e : Tree) (o : Constant) → IsWorth ks e o → known_sort ks e ≡ constant_sort o
+pub sort_is : (ks : List Known) (e : Tree) (o : Constant) → IsWorth ks e o → known_sort ks e ≡ constant_sort o
 sort_is ks e (constant.Real a) h = h.0
 sort_is ks e (constant.Bool b) h = h.0
 

@@ -1,2 +1,5 @@
 pub mod Firsts
 pub mod Constants
+pub mod Walks
+pub mod Once
+pub mod Numbers

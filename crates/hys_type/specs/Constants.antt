@@ -7,7 +7,7 @@ use Rattle.hys_number.specs.Ops.{whole, fits}
 use Rattle.hys_frac.specs.Read.{reading, judged}
 use Rattle.hys_lin.specs.declared.lost.Lost.{Lost}
 use Rattle.hys_lin.specs.Operations.{plus, minus, times, over}
-use Rattle.hys_lin.specs.Bits.{is_one}
+use Rattle.hys_lin.specs.Bits.{bit, is_one}
 use Rattle.hys_ast.specs.declared.place.Place.{Place}
 use Rattle.hys_ast.specs.declared.tree.UnaryOp.{UnaryOp}
 use Rattle.hys_ast.specs.declared.tree.BinaryOp.{BinaryOp}
@@ -174,6 +174,13 @@ shown_as p (Err l) = Err (fault.Range p l)
 abbrev pub IsWorth : List Known → Tree → Constant → Type 0
 IsWorth ks e (constant.Real a) = (known_sort ks e ≡ Real) × (a ≡ value (known_values ks) e)
 IsWorth ks e (constant.Bool b) = (known_sort ks e ≡ Bool') × (b ≡ truth (known_values ks) e)
+
+-- the number that a constant gives to a name of the kind
+abbrev pub IsNumberOf : Kind → Constant → Number → Type 0
+IsNumberOf kind.Real (constant.Real a) n = n ≡ a
+IsNumberOf kind.Real (constant.Bool b) n = ⊥
+IsNumberOf kind.Bool (constant.Real a) n = ⊥
+IsNumberOf kind.Bool (constant.Bool b) n = n ≡ bit b
 
 -- ---- literals
 -- the text is read as the literal that it is, or refused where its value doesn't fit

@@ -16,7 +16,7 @@ use Rattle.hys_meaning.specs.Names.{is_parameter}
 use Rattle.hys_meaning.specs.Typed.{has_box}
 use Rattle.hys_type.specs.Sorts.{Sort, is_real, is_bool}
 use Rattle.hys_type.specs.Faults.{Check, check}
-use Rattle.hys_type.specs.Constants.{known_values, known_sort, constant_checks}
+use Rattle.hys_type.specs.Constants.{known_values, known_sort, constant_checks, HasLiterals}
 use Rattle.hys_type.specs.declared.constant.Known.{Known}
 use Rattle.hys_type.specs.declared.fault.TypeFault.TheVariants as fault
 
@@ -79,9 +79,13 @@ abbrev pub known : List Decl → List Decl → List Known
 known all ds = with_parameters (others all) ds
 
 -- ---- values and boxes
--- a parameter has a value of its kind, which names parameters declared before it
+-- a parameter has a value of its kind
+abbrev pub parameter_checks : List Known → Decl → List Check
+parameter_checks ks d = cond (is_parameter d.section) (check (is_given d.value) (fault.NoValue d.place) ∷ if_some (constant_of_kind d.kind ks) d.value) []
+
+-- a value names parameters that are declared before its own
 abbrev pub value_checks : List Decl → List Decl → Decl → List Check
-value_checks all before d = cond (is_parameter d.section) (check (is_given d.value) (fault.NoValue d.place) ∷ if_some (constant_of_kind d.kind (known all before)) d.value) []
+value_checks all before d = parameter_checks (known all before) d
 
 abbrev pub at_most : Ordering → Bool
 at_most Less = true
@@ -103,3 +107,11 @@ bounds_checks ks d =
 -- a real state or input has bounds, which are real and constant
 abbrev pub box_checks : List Known → Decl → List Check
 box_checks ks d = cond (has_box d) (bounds_checks ks d) []
+
+-- ---- literals
+abbrev pub HaveLiterals : Option Tree → Type 0
+HaveLiterals (Some e) = HasLiterals e
+HaveLiterals None = Unit {0}
+
+abbrev pub HasValueLiterals : Decl → Type 0
+HasValueLiterals d = HaveLiterals d.value

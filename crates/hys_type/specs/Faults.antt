@@ -1,5 +1,5 @@
 -- Checks, and the fault of the first that fails.
-use Rattle.std.specs.Prelude.{List, [], ◌∷◌, Option, Some, None, Bool, map, cond}
+use Rattle.std.specs.Prelude.{List, [], ◌∷◌, Option, Some, None, Bool, map, cond, ◌≡◌, Result, Ok, Err}
 use Rattle.hys_number.specs.Ops.{fits}
 use Rattle.hys_lin.specs.declared.lost.Lost.{Lost}
 use Rattle.hys_lin.specs.Operations.{outcome}
@@ -22,3 +22,8 @@ first_fault (c ∷ cs) = cond c.passes (first_fault cs) (Some c.fault)
 -- the numbers that a node is folded to fit, one after the other
 abbrev pub in_range : Place → List Lost → List Check
 in_range p os = map (λ o. check (fits (outcome o)) (fault.Range p o)) os
+
+-- memory aside, the answer is the first fault, or none of the checks fails
+abbrev pub Answers : {T : Type 0} → Result T TypeFault → List Check → Type 0
+Answers (Ok x) cs = None ≡ first_fault cs
+Answers (Err f) cs = ¬ (f ≡ fault.Memory) → Some f ≡ first_fault cs

@@ -2,7 +2,13 @@
 #![tactic(auto)]
 
 mod constant;
+mod declared;
 mod fault;
+mod kinds;
+mod parameters;
 
 pub use constant::{Constant, Known, evaluate};
+pub use declared::check_names;
 pub use fault::TypeFault;
+pub use kinds::evaluate_as;
+pub use parameters::known_names;
