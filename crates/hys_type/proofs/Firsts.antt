@@ -1,8 +1,9 @@
 -- The first fault of two lists of checks.
-use Rattle.std.proofs.Common.{◌≡◌, List, [], ◌∷◌, ◌++◌, Some, None, Bool, true, false, cond, refl, ap, Result, Ok, Err}
+use Rattle.std.proofs.Common.{◌≡◌, ◌∙◌, List, [], ◌∷◌, ◌++◌, Some, None, Bool, true, false, cond, refl, ap, Result, Ok, Err}
 use Rattle.std.specs.Result.{result_err, IsErr, IsErrAnd}
-use Rattle.hys_type.specs.Faults.{Check, first_fault}
+use Rattle.hys_type.specs.Faults.{Check, first_fault, Answers}
 use Rattle.hys_type.specs.declared.fault.TypeFault.{TypeFault}
+use Rattle.hys_type.specs.declared.fault.TypeFault.TheVariants as fault
 
 pub fault_after : (xs ys : List Check) → None ≡ first_fault xs → first_fault (xs ++ ys) ≡ first_fault ys
 fault_after [] ys h = refl
@@ -27,3 +28,11 @@ failed (Ok a) f h = absurd (never h.0)
     never : false ≡ true → ⊥
     never e = absurd (cc)
 failed (Err e) f h = ap (λ (x : TypeFault). Some x) h.1
+
+-- the fault that `?` hands on, where memory may be wanting
+pub handed : {T : Type 0} (r : Result T TypeFault) (f : TypeFault) (cs : List Check) → IsErr r × IsErrAnd r (λ e. e ≡ f) → (¬ (f ≡ fault.Memory) → Some f ≡ first_fault cs) → Answers r cs
+handed (Ok a) f cs h k = absurd (never h.0)
+  where
+    never : false ≡ true → ⊥
+    never e = absurd (cc)
+handed (Err e) f cs h k = λ n. ap (λ (x : TypeFault). Some x) h.1 ∙ k (λ m. n (h.1 ∙ m))

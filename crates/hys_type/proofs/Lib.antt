@@ -3,3 +3,5 @@ pub mod Constants
 pub mod Walks
 pub mod Once
 pub mod Numbers
+pub mod Knowing
+pub mod Ends

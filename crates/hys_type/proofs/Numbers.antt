@@ -1,5 +1,5 @@
 -- Constant expressions of a wanted kind.
-use Rattle.std.proofs.Common.{◌≡◌, List, [], ◌∷◌, ◌++◌, Option, Some, None, Result, Ok, Err, IfOk, sym, ◌∙◌, ap}
+use Rattle.std.proofs.Common.{◌≡◌, List, [], ◌∷◌, Option, Some, None, Result, Ok, Err, IfOk, sym, ◌∙◌, ap}
 use Rattle.hys_number.specs.Number.{Number}
 use Rattle.hys_lin.specs.Bits.{bit}
 use Rattle.hys_ast.specs.declared.source.Kind.{Kind}
@@ -8,7 +8,7 @@ use Rattle.hys_ast.specs.declared.place.Place.{Place}
 use Rattle.hys_ast.specs.Tree.{Tree}
 use Rattle.hys_meaning.specs.Values.{given}
 use Rattle.hys_type.specs.Sorts.{Sort}
-use Rattle.hys_type.specs.Faults.{Check, check, first_fault}
+use Rattle.hys_type.specs.Faults.{check, first_fault}
 use Rattle.hys_type.specs.Constants.{known_values, known_sort, constant_checks, constant_sort, IsWorth, IsNumberOf}
 use Rattle.hys_type.specs.Declarations.{place_of, is_of_kind, constant_of_kind}
 use Rattle.hys_type.specs.declared.constant.Known.{Known}

@@ -1,14 +1,11 @@
 -- Names among declarations.
-use Rattle.std.proofs.Common.{◌≡◌, ℕ, ◌<◌, ◌≤◌, suc, List, [], ◌∷◌, Option, Some, None, Bool, true, false, ◌||◌, not, cond, map, length, nat_lt, refl, sym, ◌∙◌, ap, arith}
+use Rattle.std.proofs.Common.{◌≡◌, ℕ, ◌<◌, ◌≤◌, suc, List, [], ◌∷◌, Some, None, Bool, true, false, ◌||◌, map, length, nat_lt, refl, sym, ap, arith}
 use Rattle.std.specs.Str.{bytes_eq}
 use Rattle.std.specs.List.{list_any}
-use Rattle.hys_ast.specs.Tree as tree
 use Rattle.hys_ast.specs.declared.source.Decl.{Decl}
-use Rattle.hys_ast.specs.declared.place.Place.{Place}
 use Rattle.hys_ast.specs.Seen.{decl_of}
-use Rattle.hys_type.specs.Faults.{check, first_fault}
-use Rattle.hys_type.specs.Declarations.{name_checks, most_names}
-use Rattle.hys_type.specs.declared.fault.TypeFault.{TypeFault}
+use Rattle.hys_type.specs.Faults.{first_fault}
+use Rattle.hys_type.specs.Declarations.{name_checks}
 use Rattle.hys_type.specs.declared.fault.TypeFault.TheVariants as fault
 
 any_declared : (n : List ℕ) (ds : List Decl) → list_any (λ d. bytes_eq n d.name) ds ≡ list_any (λ d. bytes_eq n d.name) (map decl_of ds)

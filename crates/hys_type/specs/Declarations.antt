@@ -1,11 +1,13 @@
 -- The checks of declarations: each name once, values of parameters, and boxes.
-use Rattle.std.specs.Prelude.{ℕ, List, [], ◌∷◌, ◌++◌, Option, Some, None, Bool, true, false, ◌&&◌, not, map, cond, filter, nat_lt, length}
+use Rattle.std.specs.Prelude.{ℕ, List, [], ◌∷◌, ◌++◌, Option, Some, None, Bool, true, false, not, map, cond, filter, nat_lt, length}
 use Rattle.std.specs.Str.{bytes_eq}
 use Rattle.std.specs.List.{list_any}
 use Rattle.std.specs.declared.cmp.Ordering.{Ordering}
 use Rattle.std.specs.declared.cmp.Ordering.TheVariants.{Less, Equal, Greater}
 use Rattle.hys_number.specs.Number.{Number}
+use Rattle.hys_number.specs.Ops.{whole}
 use Rattle.hys_frac.specs.Compare.{number_cmp}
+use Rattle.hys_lin.specs.declared.form.Interval.{Interval}
 use Rattle.hys_ast.specs.declared.place.Place.{Place}
 use Rattle.hys_ast.specs.declared.source.Kind.{Kind}
 use Rattle.hys_ast.specs.declared.source.Kind.TheVariants as kind
@@ -93,20 +95,35 @@ at_most Equal = true
 at_most Greater = false
 
 -- the low end is at most the high one
-abbrev pub ends_checks : List Known → Place → Option Tree → Option Tree → List Check
-ends_checks ks p (Some low) (Some high) =
-    check (at_most (number_cmp (value (known_values ks) low) (value (known_values ks) high))) (fault.EmptyBounds p (value (known_values ks) low) (value (known_values ks) high)) ∷ []
-ends_checks ks p (Some low) None = []
-ends_checks ks p None high = []
+abbrev pub ends_checks : Number → Number → Place → List Check
+ends_checks low high p = check (at_most (number_cmp low high)) (fault.EmptyBounds p low high) ∷ []
 
-abbrev pub bounds_checks : List Known → Decl → List Check
-bounds_checks ks d =
-    check (is_given d.low && is_given d.high) (fault.NoBounds d.place)
-    ∷ (if_some (constant_of_kind kind.Real ks) d.low ++ (if_some (constant_of_kind kind.Real ks) d.high ++ ends_checks ks d.place d.low d.high))
+-- both ends are real and constant
+abbrev pub bounds_checks : List Known → Tree → Tree → Place → List Check
+bounds_checks ks low high p =
+    constant_of_kind kind.Real ks low ++ (constant_of_kind kind.Real ks high ++ ends_checks (value (known_values ks) low) (value (known_values ks) high) p)
 
--- a real state or input has bounds, which are real and constant
+abbrev pub given_bounds_checks : List Known → Option Tree → Option Tree → Place → List Check
+given_bounds_checks ks (Some low) (Some high) p = bounds_checks ks low high p
+given_bounds_checks ks (Some low) None p = check false (fault.NoBounds p) ∷ []
+given_bounds_checks ks None high p = check false (fault.NoBounds p) ∷ []
+
+-- a real state or input has bounds
 abbrev pub box_checks : List Known → Decl → List Check
-box_checks ks d = cond (has_box d) (bounds_checks ks d) []
+box_checks ks d = cond (has_box d) (given_bounds_checks ks d.low d.high d.place) []
+
+-- the box of a real state or input is that of its bounds
+abbrev pub end_value : List Known → Option Tree → Number
+end_value ks (Some e) = value (known_values ks) e
+end_value ks None = whole 0
+
+-- the box of any other name
+abbrev pub usual_box : Kind → Interval
+usual_box kind.Real = record { low = whole 0; high = whole 0 }
+usual_box kind.Bool = record { low = whole 0; high = whole 1 }
+
+abbrev pub box_of : List Known → Decl → Interval
+box_of ks d = cond (has_box d) (record { low = end_value ks d.low; high = end_value ks d.high }) (usual_box d.kind)
 
 -- ---- literals
 abbrev pub HaveLiterals : Option Tree → Type 0
@@ -115,3 +132,6 @@ HaveLiterals None = Unit {0}
 
 abbrev pub HasValueLiterals : Decl → Type 0
 HasValueLiterals d = HaveLiterals d.value
+
+abbrev pub HasBoundLiterals : Decl → Type 0
+HasBoundLiterals d = HaveLiterals d.low × HaveLiterals d.high

@@ -31,7 +31,11 @@ fn place_of(whole: &Expr) -> Place
 fn bit(truth: bool) -> Frac
     ensures { result ≡ bit truth }
 {
-    if truth { Frac::whole(1) } else { Frac::whole(0) }
+    if truth {
+        Frac::whole(1)
+    } else {
+        Frac::whole(0)
+    }
 }
 
 fn number_of(kind: Kind, constant: Constant, place: Place) -> Result<Frac, TypeFault>

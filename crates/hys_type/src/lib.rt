@@ -1,12 +1,14 @@
 //! From the tree of a source to its program: names, kinds, constants and affine forms.
 #![tactic(auto)]
 
+mod bounds;
 mod constant;
 mod declared;
 mod fault;
 mod kinds;
 mod parameters;
 
+pub use bounds::boxes;
 pub use constant::{Constant, Known, evaluate};
 pub use declared::check_names;
 pub use fault::TypeFault;

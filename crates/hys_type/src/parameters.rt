@@ -30,6 +30,7 @@ fn is_parameter(decl: &Decl) -> bool
     matches!(decl.section, Section::Parameter)
 }
 
+#[tactic(auto, using(crate::proofs::Knowing::kept_here, crate::proofs::Knowing::left_here, crate::proofs::Knowing::all_others))]
 // The names that are no parameters.
 fn others(alloc: Global, decls: &[Decl]) -> Result<Vec<Known>, AllocError>
     ensures { IfOk result (λ v. v.items ≡ others (map decl_of decls.now)) }
