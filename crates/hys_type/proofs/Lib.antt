@@ -5,3 +5,4 @@ pub mod Once
 pub mod Numbers
 pub mod Knowing
 pub mod Ends
+pub mod Zips

@@ -5,3 +5,4 @@ pub mod Nodes
 pub mod Walks
 pub mod Declarations
 pub mod Checks
+pub mod Dense

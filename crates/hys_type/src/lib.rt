@@ -4,13 +4,16 @@
 mod bounds;
 mod constant;
 mod declared;
+mod dense;
 mod fault;
 mod kinds;
+pub mod laws;
 mod parameters;
 
 pub use bounds::boxes;
 pub use constant::{Constant, Known, evaluate};
 pub use declared::check_names;
+pub use dense::{Dense, fold, is_constant, spread};
 pub use fault::TypeFault;
 pub use kinds::evaluate_as;
 pub use parameters::known_names;
