@@ -1,12 +1,17 @@
 -- The names that constant expressions know, one declaration after the other.
-use Rattle.std.proofs.Common.{◌≡◌, ℕ, ◌+◌, ◌<◌, ◌≤◌, List, [], ◌∷◌, ◌++◌, true, false, map, take, drop, length, get_or, refl, sym, ◌∙◌, ap, subst, zero, suc, append_assoc}
+use Rattle.std.proofs.Common.{◌||◌, Bool, ◌≡◌, ℕ, ◌+◌, ◌<◌, ◌≤◌, List, [], ◌∷◌, ◌++◌, true, false, map, take, drop, length, get_or, refl, sym, ◌∙◌, ap, subst, zero, suc, append_assoc, Some, None}
 use Rattle.std.proofs.lemmas.List.{drop_all, append-nil, map_push}
 use Rattle.std.proofs.Math.Seq.{drop-nil}
-use Rattle.std.specs.List.{AllByRecursion}
+use Rattle.std.specs.List.{AllByRecursion, list_any}
 use Rattle.hys_lin.specs.declared.form.Interval.{Interval}
 use Rattle.hys_ast.specs.Tree as tree
 use Rattle.hys_ast.specs.declared.source.Decl.{Decl}
-use Rattle.hys_ast.specs.Seen.{decl_of}
+use Rattle.hys_ast.specs.declared.source.Item.{Item}
+use Rattle.hys_ast.specs.Seen.{decl_of, item_of}
+use Rattle.hys_meaning.specs.Typed.{defines, is_defined}
+use Rattle.hys_type.specs.Checks.{missing_checks}
+use Rattle.hys_type.specs.Faults.{first_fault}
+use Rattle.hys_type.specs.declared.fault.TypeFault.TheVariants as fault
 use Rattle.hys_meaning.specs.Names.{is_parameter}
 use Rattle.hys_type.specs.Declarations.{other, others, with_parameter, with_parameters, known, box_of}
 use Rattle.hys_type.specs.declared.constant.Known.{Known}
@@ -49,3 +54,17 @@ pub one_box : (ks : List Known) (vs ws : List Interval) (ds : List Decl) (i : �
     ws ≡ vs ++ b ∷ [] → ws ≡ map (box_of ks) (map decl_of (take (i + 1) ds))
 one_box ks vs ws ds i d b h e v o w =
     w ∙ ap (λ xs. xs ++ b ∷ []) v ∙ ap (λ x. map (box_of ks) (map decl_of (take i ds)) ++ x ∷ []) o ∙ sym (map_push (box_of ks) (map decl_of (take i ds)) (decl_of d)) ∙ ap (map (box_of ks)) (sym (longer decl_of ds i d h e))
+
+-- ---- items that define a name
+any_item : (n : List ℕ) (is : List Item) → list_any (λ i. defines n i.name) (map item_of is) ≡ list_any (λ i. defines n i.name) is
+any_item n [] = refl
+any_item n (i ∷ is) = ap (λ (b : Bool). defines n i.name || b) (any_item n is)
+
+pub missing_name : (m : List ℕ) (d : Decl) (is : List Item) → m ≡ d.name → true ≡ is_defined d.section → false ≡ list_any (λ i. defines d.name i.name) is → Some (fault.Missing m) ≡ first_fault (missing_checks (map item_of is) (decl_of d))
+missing_name m d is e h k = ap (λ (n : List ℕ). Some (fault.Missing n)) e ∙ rw (sym h, any_item d.name is, sym k) refl
+
+pub found_name : (d : Decl) (is : List Item) → true ≡ is_defined d.section → true ≡ list_any (λ i. defines d.name i.name) is → None ≡ first_fault (missing_checks (map item_of is) (decl_of d))
+found_name d is h k = rw (sym h, any_item d.name is, sym k) refl
+
+pub no_need : (d : Decl) (is : List Item) → false ≡ is_defined d.section → None ≡ first_fault (missing_checks (map item_of is) (decl_of d))
+no_need d is h = rw (sym h) refl

@@ -8,6 +8,7 @@ mod dense;
 mod fault;
 mod kinds;
 pub mod laws;
+mod missing;
 mod parameters;
 
 pub use bounds::boxes;
@@ -16,4 +17,5 @@ pub use declared::check_names;
 pub use dense::{Dense, fold, is_constant, spread};
 pub use fault::TypeFault;
 pub use kinds::evaluate_as;
+pub use missing::check_all_defined;
 pub use parameters::known_names;
