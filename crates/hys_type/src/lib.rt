@@ -1,6 +1,21 @@
 //! From the tree of a source to its program: names, kinds, constants and affine forms.
 #![tactic(auto)]
 
+mod bounds;
+mod constant;
+mod declared;
+mod dense;
 mod fault;
+mod kinds;
+pub mod laws;
+mod missing;
+mod parameters;
 
+pub use bounds::boxes;
+pub use constant::{Constant, Known, evaluate};
+pub use declared::check_names;
+pub use dense::{Dense, fold, is_constant, spread};
 pub use fault::TypeFault;
+pub use kinds::evaluate_as;
+pub use missing::check_all_defined;
+pub use parameters::known_names;

@@ -1,0 +1,98 @@
+//! Forms with a factor for each declared name, and their operations name by name.
+
+ghost use Rattle.std.specs.Prelude.{◌≡◌, ◌≢◌, [], ◌∷◌, ◌++◌, length, map, IfOk};
+ghost use Rattle.std.specs.Result.{result_err};
+ghost use Rattle.std.specs.List.{AllByRecursion, list_all};
+ghost use Rattle.hys_number.specs.Ops.{whole};
+ghost use Rattle.hys_meaning.specs.Folding.{is_zero};
+ghost use Rattle.hys_lin.specs.Operations.{first_lost, result_of};
+ghost use Rattle.hys_lin.specs.Scaled.{AnswersLost};
+ghost use Rattle.hys_lin.specs.declared.lost.Op.TheVariants as operation;
+ghost use Rattle.hys_type.specs.Dense.{between, zipped, folded_by, folded_form, spread};
+
+use hys_base::List;
+use hys_frac::Frac;
+use hys_lin::{LinFault, Lost, Op, add, divide, multiply, subtract};
+use std::alloc::{AllocError, Global};
+
+/// A factor for each declared name in order, and a constant.
+#[derive(Debug, Drop)]
+pub struct Dense {
+    pub factors: List<Frac>,
+    pub constant: Frac,
+}
+
+/// The operation between two numbers, or the two where its result doesn't fit.
+fn operate(op: Op, left: Frac, right: Frac) -> Result<Frac, Lost>
+    requires { op ≡ operation.Div → right ≢ whole 0 }
+    ensures value { IfOk result (λ r. r ≡ result_of op left right) }
+    ensures lost { result_err result ≡ first_lost (between op left right ∷ []) }
+{
+    match op {
+        Op::Add => add(left, right),
+        Op::Sub => subtract(left, right),
+        Op::Mul => multiply(left, right),
+        Op::Div => divide(left, right),
+    }
+}
+
+// The operation between the numbers at each place.
+fn pointwise(alloc: Global, op: Op, left: &[Frac], right: &[Frac]) -> Result<Vec<Frac>, LinFault>
+    requires same { length left.now ≡ length right.now }
+    requires divisors { op ≡ operation.Div → AllByRecursion (λ b. b ≢ whole 0) right.now }
+    ensures value { IfOk result (λ v. v.items ≡ zipped (result_of op) left.now right.now) }
+    ensures lost { AnswersLost result (zipped (between op) left.now right.now) }
+{
+    let mut results = Vec::new(alloc);
+    for at in 0..left.len() {
+        results.push(operate(op, left[at], right[at])?)?;
+    }
+    Ok(results)
+}
+
+/// The operation between two forms, factor by factor and then between the constants, or the first
+/// result that doesn't fit.
+pub fn fold(alloc: Global, op: Op, left: &Dense, right: &Dense) -> Result<Dense, LinFault>
+    requires same { length left.now.factors ≡ length right.now.factors }
+    requires divisors { op ≡ operation.Div → AllByRecursion (λ b. b ≢ whole 0) right.now.factors }
+    requires divisor { op ≡ operation.Div → right.now.constant ≢ whole 0 }
+    ensures value { IfOk result (λ r. r ≡ folded_form op left.now right.now) }
+    ensures lost { AnswersLost result (folded_by op left.now right.now) }
+{
+    let factors = pointwise(alloc, op, left.factors.items(), right.factors.items())?;
+    let constant = operate(op, left.constant, right.constant)?;
+    Ok(Dense {
+        factors: List::of(factors),
+        constant,
+    })
+}
+
+/// The form whose constant stands at each name too, beside which a product or a quotient goes name
+/// by name.
+pub fn spread(alloc: Global, form: &Dense) -> Result<Dense, AllocError>
+    ensures { IfOk result (λ r. r ≡ spread form.now) }
+{
+    let mut factors = Vec::new(alloc);
+    for _ in form.factors.items() {
+        factors.push(form.constant)?;
+    }
+    Ok(Dense {
+        factors: List::of(factors),
+        constant: form.constant,
+    })
+}
+
+// Whether the number is 0.
+#[tactic(auto, unfolding(hys_meaning::specs::Folding::is_zero))]
+fn is_zero(number: Frac) -> bool
+    ensures { result ≡ is_zero number }
+{
+    number.num() == 0
+}
+
+/// Whether no name has a factor.
+pub fn is_constant(form: &Dense) -> bool
+    ensures { result ≡ list_all is_zero form.now.factors }
+{
+    form.factors.items().iter().all(|f| is_zero(*f))
+}
