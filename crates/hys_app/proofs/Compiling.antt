@@ -71,13 +71,13 @@ reached_alone L o r r' (inr (inr e)) l c = record {
 usage_one : (o : Outcome) (r r' : ℕ) → IsUsage o → r' ≡ r → IsReached IsUsage o r r'
 usage_one o r r' e c = reached_alone IsUsage o r r' (inr (inl (ap (λ (p : Outcome). p.status) e))) e c
 
-unread_one : (held : Option Named) (source target : List ℕ) (o : Outcome) (r r' : ℕ) → o ≡ saying Read (read_line source) → Rose r r' →
+unread_one : (held : Option Named) (source target : List ℕ) (o : Outcome) (r r' : ℕ) → o ≡ saying Read (read_line source) → r ≤ r' → Rose r r' →
     IsReached (IsCompileOutcome held source target) o r r'
-unread_one held source target o r r' e rose =
+unread_one held source target o r r' e more rose =
     let s : o.status ≡ Read = ap (λ (p : Outcome). p.status) e in
     record {
       lawful = subst (IsCompileOutcome held source target) (sym e) unread;
-      reads = record { failed = λ d. rose; unput = λ d. ap (λ (p : Outcome). p.file) e; calm = λ d. absurd (d s); not_write = λ d. cc; not_memory = λ d. cc };
+      reads = record { failed = λ d. (more, rose); unput = λ d. ap (λ (p : Outcome). p.file) e; calm = λ d. absurd (d s); not_write = λ d. cc; not_memory = λ d. cc };
     }
 
 long_one : (held : Option Named) (source target : List ℕ) (fault : SourceFault) (o : Outcome) (r r' : ℕ) → o ≡ saying Source (refused_line fault) →
@@ -113,10 +113,10 @@ pub reached_usage : (x : Result Outcome AllocError) (r r' : ℕ) → IfOk x IsUs
 reached_usage (Ok o) r r' h c = usage_one o r r' h c
 reached_usage (Err e) r r' h c = tt
 
-pub reached_unread : (held : Option Named) (source target : List ℕ) (x : Result Outcome AllocError) (r r' : ℕ) → IfOk x (λ o. o ≡ saying Read (read_line source)) → Rose r r' →
+pub reached_unread : (held : Option Named) (source target : List ℕ) (x : Result Outcome AllocError) (r r' : ℕ) → IfOk x (λ o. o ≡ saying Read (read_line source)) → r ≤ r' → Rose r r' →
     IfOk x (λ o. IsReached (IsCompileOutcome held source target) o r r')
-reached_unread held source target (Ok o) r r' h rose = unread_one held source target o r r' h rose
-reached_unread held source target (Err e) r r' h rose = tt
+reached_unread held source target (Ok o) r r' h more rose = unread_one held source target o r r' h more rose
+reached_unread held source target (Err e) r r' h more rose = tt
 
 pub reached_long : (held : Option Named) (source target : List ℕ) (fault : SourceFault) (x : Result Outcome AllocError) (r r' : ℕ) → IfOk x (λ o. o ≡ saying Source (refused_line fault)) →
     fault ≡ over_limit Bytes → IfHolds held source (λ file. most_bytes < length file) → r' ≡ r → IfOk x (λ o. IsReached (IsCompileOutcome held source target) o r r')

@@ -1,5 +1,5 @@
 -- What follows from how an outcome is carried out.
-use Rattle.std.proofs.Common.{◌≡◌, ◌≢◌, ◌⊎◌, Option, None, Some, refl, sym, inl, inr}
+use Rattle.std.proofs.Common.{◌≡◌, ◌≢◌, ◌≤◌, ◌⊎◌, Option, None, Some, refl, sym, inl, inr, arith}
 use Rattle.hys_io.specs.Outside.{Named, Rose, IfAppended}
 use Rattle.hys_app.specs.declared.status.Status.{Status}
 use Rattle.hys_app.specs.declared.status.Status.TheVariants.{Done, NoTrajectory, Usage, Read, Write, Source, Input, Stopped, Spent, Range, Memory}
@@ -20,24 +20,31 @@ done o result old new (whole e p said f) w n = (e, p.put, said)
 
 pub write : (o : Outcome) (old new : Outside) → o.status ≢ Write → IsCarriedOut o Write old new → Rose old.put_faults new.put_faults ⊎ Rose old.faults new.faults
 write o old new w (unput m u) = absurd (apart m)
-write o old new w (torn e t f s g) = inl f
-write o old new w (cut e p part f) = inr f
+write o old new w (torn e t f s g) = inl f.1
+write o old new w (cut e p part f) = inr f.1
 write o old new w (short m p part f) = absurd (apart m)
 write o old new w (whole e p said f) = absurd (w (sym e))
 
 pub silent : (o : Outcome) (old new : Outside) → o.status ≢ Write → IsCarriedOut o Write old new → Rose old.faults new.faults ⊎ (new.written ≡ old.written)
 silent o old new w (unput m u) = absurd (apart m)
 silent o old new w (torn e t f s g) = inr s
-silent o old new w (cut e p part f) = inl f
+silent o old new w (cut e p part f) = inl f.1
 silent o old new w (short m p part f) = absurd (apart m)
 silent o old new w (whole e p said f) = absurd (w (sym e))
 
 pub standing : (o : Outcome) (old new : Outside) → o.status ≢ Write → IsCarriedOut o Write old new → Rose old.put_faults new.put_faults ⊎ IsPut o.file old.held new.held
 standing o old new w (unput m u) = absurd (apart m)
-standing o old new w (torn e t f s g) = inl f
+standing o old new w (torn e t f s g) = inl f.1
 standing o old new w (cut e p part f) = inr p.put
 standing o old new w (short m p part f) = absurd (apart m)
 standing o old new w (whole e p said f) = absurd (w (sym e))
+
+pub counted : (o : Outcome) (result : Status) (old new : Outside) → IsCarriedOut o result old new → (old.put_faults ≤ new.put_faults) × (old.faults ≤ new.faults)
+counted o result old new (unput m u) = (omega (arith, u.put_faults), omega (arith, u.faults))
+counted o result old new (torn e t f s g) = (f.0, omega (arith, g))
+counted o result old new (cut e p part f) = (omega (arith, p.put_faults), f.0)
+counted o result old new (short m p part f) = (omega (arith, p.put_faults), omega (arith, f))
+counted o result old new (whole e p said f) = (omega (arith, p.put_faults), omega (arith, f))
 
 pub failed_put : (o : Outcome) (result : Status) (old new : Outside) → IsCarriedOut o result old new → new.put_faults ≢ old.put_faults → (result ≡ Write) × (new.written ≡ old.written)
 failed_put o result old new (unput m u) never = absurd (never u.put_faults)

@@ -10,13 +10,13 @@ pub by_unput : (o : Outcome) (result : Status) (old new : Outside) → result �
     new.written ≡ old.written → new.faults ≡ old.faults → IsCarriedOut o result old new
 by_unput o result old new e h p w f = unput e (record { held = h; put_faults = p; written = w; faults = f })
 
-pub by_torn : (o : Outcome) (result : Status) (old new : Outside) → result ≡ Write → IsTorn o.file old.held new.held → Rose old.put_faults new.put_faults →
+pub by_torn : (o : Outcome) (result : Status) (old new : Outside) → result ≡ Write → IsTorn o.file old.held new.held → old.put_faults ≤ new.put_faults → Rose old.put_faults new.put_faults →
     new.written ≡ old.written → new.faults ≡ old.faults → IsCarriedOut o result old new
-by_torn o result old new e t r w f = torn e t r w f
+by_torn o result old new e t m r w f = torn e t (m, r) w f
 
 pub by_cut : (o : Outcome) (result : Status) (old new : Outside) → result ≡ Write → IsPut o.file old.held new.held → new.put_faults ≡ old.put_faults →
-    IfPart old.written new.written o.line → Rose old.faults new.faults → IsCarriedOut o result old new
-by_cut o result old new e h p w f = cut e (record { put = h; put_faults = p }) w f
+    IfPart old.written new.written o.line → old.faults ≤ new.faults → Rose old.faults new.faults → IsCarriedOut o result old new
+by_cut o result old new e h p w m f = cut e (record { put = h; put_faults = p }) w (m, f)
 
 pub by_short : (o : Outcome) (result : Status) (old new : Outside) → result ≡ Memory → IsPut o.file old.held new.held → new.put_faults ≡ old.put_faults →
     IfPart old.written new.written o.line → new.faults ≡ old.faults → IsCarriedOut o result old new

@@ -25,6 +25,10 @@ outside F S files out = record {
   faults = S.faults out;
 }
 
+-- something failed: the count has risen, or stands at its end
+abbrev pub Failed : ℕ → ℕ → Type 0
+Failed before now = (before ≤ now) × Rose before now
+
 -- ---- files and texts
 -- where the files are told: the file stands there whole, and nothing else has changed
 abbrev pub IsPut : Option NewFile → Option Named → Option Named → Type 0
@@ -58,10 +62,10 @@ pub data IsCarriedOut (o : Outcome) (result : Status) (old new : Outside) : Type
   -- no memory for the put
   unput : result ≡ Memory → IsUntouched old new → IsCarriedOut o result old new
   -- the put fails: the file may be torn, and nothing is printed
-  torn : result ≡ Write → IsTorn o.file old.held new.held → Rose old.put_faults new.put_faults →
+  torn : result ≡ Write → IsTorn o.file old.held new.held → Failed old.put_faults new.put_faults →
       new.written ≡ old.written → new.faults ≡ old.faults → IsCarriedOut o result old new
   -- the sink fails: the file stands, and a part of the line is printed
-  cut : result ≡ Write → IsFilePut o old new → IfPart old.written new.written o.line → Rose old.faults new.faults → IsCarriedOut o result old new
+  cut : result ≡ Write → IsFilePut o old new → IfPart old.written new.written o.line → Failed old.faults new.faults → IsCarriedOut o result old new
   -- no memory for printing, likewise
   short : result ≡ Memory → IsFilePut o old new → IfPart old.written new.written o.line → new.faults ≡ old.faults → IsCarriedOut o result old new
   -- the file stands and the line is printed
@@ -70,7 +74,7 @@ pub data IsCarriedOut (o : Outcome) (result : Status) (old new : Outside) : Type
 -- ---- how a run ends
 -- A read failed exactly where the outcome says so, and then it puts nothing. The statuses of what fails later are not its own.
 pub record IsAfterReads (o : Outcome) (read_faults read_faults' : ℕ) : Type 0 where
-  pub failed : o.status ≡ Read → Rose read_faults read_faults'
+  pub failed : o.status ≡ Read → Failed read_faults read_faults'
   pub unput : o.status ≡ Read → o.file ≡ None
   pub calm : o.status ≢ Read → read_faults' ≡ read_faults
   pub not_write : o.status ≢ Write

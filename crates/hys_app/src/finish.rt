@@ -1,4 +1,4 @@
-ghost use Rattle.std.specs.Prelude.{◌≡◌, ◌≢◌, IsErrOf, OnOk};
+ghost use Rattle.std.specs.Prelude.{◌≡◌, ◌≤◌, IsErrOf, OnOk};
 ghost use Rattle.hys_io.specs.Outside.{Rose};
 ghost use Rattle.hys_app.specs.Ends.{outside, IsCarriedOut, IsPut, IsTorn};
 
@@ -12,6 +12,7 @@ fn put_file<F: Files>(file: &Option<NewFile>, files: &mut F) -> Result<(), Failu
     ensures torn { IsErrOf result Failure.Fault → IsTorn file.now (F.held files.old) (F.held files.new) }
     ensures unchanged { IsErrOf result Failure.Memory → F.held files.new ≡ F.held files.old }
     ensures cause { IsErrOf result Failure.Fault → Rose (F.put_faults files.old) (F.put_faults files.new) }
+    ensures counted { F.put_faults files.old ≤ F.put_faults files.new }
     ensures calm { OnOk result (F.put_faults files.new ≡ F.put_faults files.old) }
     ensures calm_memory { IsErrOf result Failure.Memory → F.put_faults files.new ≡ F.put_faults files.old }
     ensures reads { F.read_faults files.new ≡ F.read_faults files.old }

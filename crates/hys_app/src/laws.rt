@@ -1,6 +1,6 @@
 //! What follows from how an outcome is carried out, whatever the command, as a call that does nothing.
 
-ghost use Rattle.std.specs.Prelude.{◌≡◌, ◌≢◌, ◌⊎◌};
+ghost use Rattle.std.specs.Prelude.{◌≡◌, ◌≢◌, ◌≤◌, ◌⊎◌};
 ghost use Rattle.hys_io.specs.Outside.{Rose, IfAppended};
 ghost use Rattle.hys_app.specs.Ends.{IsAfterReads, IsCarriedOut, IsPut, Outside};
 ghost use Rattle.hys_app.specs.declared.outcome.Outcome.{Outcome as Meant};
@@ -14,10 +14,11 @@ ghost use Rattle.hys_app.specs.declared.status.Status.TheVariants.{Write, Memory
 ///   (`done`).
 /// - Status 4 comes only where a put or a write failed (`write`). Where the sink didn't fail nothing
 ///   was printed (`silent`). Where no put failed the file stands whole (`standing`).
+/// - No count of failures falls (`counted`).
 /// - Where a put failed nothing is printed, and the status is 4 (`failed_put`).
 /// - Where a read failed before it nothing is put (`failed_read`).
 /// - After want of memory nothing is put, or the whole file (`memory`).
-#[tactic(auto, using(crate::proofs::Consequences::done, crate::proofs::Consequences::write, crate::proofs::Consequences::silent, crate::proofs::Consequences::standing, crate::proofs::Consequences::failed_put, crate::proofs::Consequences::failed_read, crate::proofs::Consequences::memory))]
+#[tactic(auto, using(crate::proofs::Consequences::done, crate::proofs::Consequences::write, crate::proofs::Consequences::silent, crate::proofs::Consequences::standing, crate::proofs::Consequences::counted, crate::proofs::Consequences::failed_put, crate::proofs::Consequences::failed_read, crate::proofs::Consequences::memory))]
 pub fn carrying_out()
     ensures done { (o : Meant) (result : Ended) (old new : Outside) → IsCarriedOut o result old new → result ≢ Write → result ≢ Memory →
         (result ≡ o.status) × IsPut o.file old.held new.held × IfAppended old.written new.written o.line }
@@ -27,6 +28,8 @@ pub fn carrying_out()
         (Rose old.faults new.faults ⊎ (new.written ≡ old.written)) }
     ensures standing { (o : Meant) (old new : Outside) → o.status ≢ Write → IsCarriedOut o Write old new →
         (Rose old.put_faults new.put_faults ⊎ IsPut o.file old.held new.held) }
+    ensures counted { (o : Meant) (result : Ended) (old new : Outside) → IsCarriedOut o result old new →
+        (old.put_faults ≤ new.put_faults) × (old.faults ≤ new.faults) }
     ensures failed_put { (o : Meant) (result : Ended) (old new : Outside) → IsCarriedOut o result old new →
         new.put_faults ≢ old.put_faults → (result ≡ Write) × (new.written ≡ old.written) }
     ensures failed_read { (o : Meant) (result : Ended) (old new : Outside) → IsAfterReads o old.read_faults new.read_faults →
