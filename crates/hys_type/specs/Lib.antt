@@ -6,3 +6,4 @@ pub mod Walks
 pub mod Declarations
 pub mod Checks
 pub mod Dense
+pub mod Examples

@@ -1,10 +1,15 @@
 //! What holds of the definitions, as calls that do nothing.
 
-ghost use Rattle.std.specs.Prelude.{◌≡◌, List};
+ghost use Rattle.std.specs.Prelude.{◌≡◌, List, [], ◌∷◌, Some, None, true, codes};
 ghost use Rattle.hys_meaning.specs.Names.{Name};
 ghost use Rattle.hys_meaning.specs.Forms.{Form};
 ghost use Rattle.hys_meaning.specs.Folding.{each, matched};
 ghost use Rattle.hys_lin.specs.declared.lost.Op.{Op};
+ghost use Rattle.hys_ast.specs.Tree as tree;
+ghost use Rattle.hys_ast.specs.declared.tree.BinaryOp.TheVariants as binary;
+ghost use Rattle.hys_type.specs.Checks.{fault_of};
+ghost use Rattle.hys_type.specs.Examples.{spot, name, zero_at, ten_at, state, output, next, source, stepping};
+ghost use Rattle.hys_type.specs.declared.fault.TypeFault.TheVariants as fault;
 ghost use Rattle.hys_type.specs.Dense.{IsDense, between, folded_by, spread};
 ghost use Rattle.hys_type.specs.declared.dense.Dense.{Dense};
 
@@ -15,4 +20,18 @@ pub fn dense_operations()
     ensures matched { (ns : List Name) (o : Op) (f g : Form) (d e : Dense) → IsDense ns f d → IsDense ns g e → folded_by o d e ≡ matched (between o) ns f g }
     ensures left { (ns : List Name) (o : Op) (f g : Form) (d e : Dense) → IsDense ns f d → IsDense ns g e → folded_by o (spread d) e ≡ each (between o) ns (λ n. f.constant) g.factor f.constant g.constant }
     ensures right { (ns : List Name) (o : Op) (f g : Form) (d e : Dense) → IsDense ns f d → IsDense ns g e → folded_by o d (spread e) ≡ each (between o) ns f.factor (λ n. g.constant) f.constant g.constant }
+{}
+
+/// The first faults of small sources, and of some that have two.
+pub fn first_faults()
+    ensures none { fault_of (stepping (name (codes "x") 6)) ≡ None }
+    ensures unknown { fault_of (stepping (name (codes "z") 6)) ≡ Some (fault.Unknown (spot 6)) }
+    ensures not_linear { fault_of (stepping (tree.Binary binary.Mul (name (codes "x") 6) (name (codes "x") 8) (spot 7))) ≡ Some (fault.NotLinear (spot 7)) }
+    ensures left_first { fault_of (stepping (tree.Binary binary.Add (tree.Truth true (spot 6)) (name (codes "z") 8) (spot 7))) ≡ Some (fault.Unknown (spot 8)) }
+    ensures at_top { fault_of (stepping (tree.Truth true (spot 6))) ≡ Some (fault.Kind (spot 6)) }
+    ensures twice { fault_of (source (state (zero_at 2) (ten_at 3) ∷ state (zero_at 2) (ten_at 3) ∷ []) []) ≡ Some (fault.Twice (spot 1)) }
+    ensures missing { fault_of (source (state (zero_at 2) (ten_at 3) ∷ []) []) ≡ Some (fault.Missing (codes "x")) }
+    ensures not_constant { fault_of (source (state (name (codes "x") 2) (ten_at 3) ∷ []) []) ≡ Some (fault.Kind (spot 2)) }
+    ensures an_output { fault_of (source (state (zero_at 2) (ten_at 3) ∷ output ∷ []) (next (name (codes "y") 6) ∷ [])) ≡ Some (fault.Kind (spot 6)) }
+    ensures defined_twice { fault_of (source (state (zero_at 2) (ten_at 3) ∷ []) (next (zero_at 6) ∷ next (zero_at 7) ∷ [])) ≡ Some (fault.DefinedTwice (spot 5)) }
 {}
