@@ -1,18 +1,17 @@
 -- What is taken one after the other is the order of definition; a round is circular; the two exclude each other.
-use Rattle.std.proofs.Common.{◌≡◌, ℕ, zero, suc, ◌+◌, ◌<◌, ◌≤◌, List, [], ◌∷◌, ◌++◌, Bool, true, false, not, cond, length, get_or, set, length-set, get_or-set_same, get_or-set_other, refl, sym, ◌∙◌, ap, subst, arith, inl, inr, ◌⊎◌, ◌↔◌}
+use Rattle.std.proofs.Common.{◌≡◌, ℕ, zero, suc, ◌+◌, ◌<◌, List, [], ◌∷◌, Bool, true, false, not, cond, length, get_or, set, length-set, get_or-set_same, get_or-set_other, refl, sym, ◌∙◌, ap, subst, arith, inl, inr, ◌⊎◌, ◌↔◌}
 use Rattle.std.specs.List.{AllByRecursion}
 use Rattle.std.proofs.lemmas.Bool.{cases_eq}
 use Rattle.hys_prog.specs.declared.program.Program.{Program}
 use Rattle.hys_prog.specs.declared.program.Name.{Name}
 use Rattle.hys_prog.specs.declared.program.Order.{Order}
-use Rattle.hys_prog.specs.declared.program.Role.{Role}
 use Rattle.hys_prog.specs.Programs.{NameAt}
 use Rattle.hys_prog.specs.Steps.{places, places_from, is_auxiliary}
-use Rattle.hys_prog.specs.Orders.{IsIn, IsNone, IsFirst, AreDifferent, Leads, LeadsTo, Circular, IsReady, IsOrderAfter, IsOrder}
+use Rattle.hys_prog.specs.Orders.{IsIn, IsNone, Leads, LeadsTo, Circular, IsReady, IsOrderAfter, IsOrder}
 use Rattle.hys_order.specs.Lists.{others}
-use Rattle.hys_order.specs.Links.{link, Untaken, Passed, Below, Ready, Taking, IsStuck, AreLinks, AreLinksOf, head_or, Chain, Round, IsRound}
+use Rattle.hys_order.specs.Links.{link, Untaken, Ready, Taking, IsStuck, AreLinksOf, Chain, IsRound}
 use Rattle.hys_order.proofs.Members.{in_at, at_in, none_in, all_of, each_of, first_holds, first_in, first_map, first_same}
-use Rattle.hys_order.proofs.Taken.{untaken_below, taken_set, taking_grows}
+use Rattle.hys_order.proofs.Taken.{untaken_below, taking_grows}
 use Rattle.hys_order.proofs.Linked.{IsAuxiliary, at_place, name_below}
 
 -- ---- marks

@@ -1,5 +1,5 @@
 -- What the definitions of a program's auxiliaries mention.
-use Rattle.std.proofs.Common.{◌≡◌, ℕ, zero, suc, ◌+◌, ◌<◌, ◌≤◌, List, [], ◌∷◌, ◌++◌, Option, Some, None, Bool, true, false, not, cond, length, get_or, refl, sym, ◌∙◌, ap, subst, arith, inl, inr, ◌⊎◌, ◌↔◌, IsTrue, eqb, eq-eqb, eqb-true}
+use Rattle.std.proofs.Common.{◌≡◌, ℕ, zero, suc, ◌+◌, ◌<◌, List, [], ◌∷◌, ◌++◌, Option, Some, None, Bool, true, false, cond, length, get_or, refl, ◌∙◌, ap, subst, arith, inl, inr, ◌⊎◌, ◌↔◌, IsTrue, eq-eqb}
 use Rattle.std.proofs.lemmas.Grind.{get_or_default_zero}
 use Rattle.hys_lin.specs.declared.form.Term.{Term}
 use Rattle.hys_lin.specs.Sums.{EachColumn}
@@ -11,13 +11,13 @@ use Rattle.hys_prog.specs.declared.program.Name.{Name}
 use Rattle.hys_prog.specs.declared.program.Program.{Program}
 use Rattle.hys_prog.specs.declared.program.Role.{Role}
 use Rattle.hys_prog.specs.declared.program.Role.TheVariants.{State, Input, Output, Parameter, Aux}
-use Rattle.hys_prog.specs.Programs.{IsProgram, EachItem, NameAt, FormOver, BodyOver, IsVariable, IsBooleanVariable, definitions, is_named, is_defined}
-use Rattle.hys_prog.specs.Steps.{places, places_from, is_auxiliary}
+use Rattle.hys_prog.specs.Programs.{IsProgram, EachItem, NameAt, BodyOver, IsVariable, IsBooleanVariable, definitions, is_named, is_defined}
+use Rattle.hys_prog.specs.Steps.{places_from, is_auxiliary}
 use Rattle.hys_prog.specs.Orders.{Stands, HasTerm, MentionedIn, SomeItem, Leads, IsIn}
 use Rattle.hys_prog.specs.Places.{ItemAt, Defines, ArePlaces}
 use Rattle.hys_order.specs.Lists.{standing, columns, mentioned, mentioned_at, link_of, links_from}
-use Rattle.hys_order.specs.Links.{link, Below, AreLinks, AreLinksOf}
-use Rattle.hys_order.proofs.Members.{in_left, in_right, in_parts, at_in, in_at}
+use Rattle.hys_order.specs.Links.{link, AreLinksOf}
+use Rattle.hys_order.proofs.Members.{in_left, in_right, in_parts, in_at}
 
 pub mentioned_here : (ts : List ProgItem) (k : ℕ) (t : ProgItem) (ms : List ℕ) → k < length ts → t ≡ get_or ts k t → ms ≡ mentioned t.body → ms ≡ mentioned_at ts k
 mentioned_here [] k t ms b e h = absurd (omega arith)

@@ -1,13 +1,13 @@
 -- Rounds of names that aren't taken.
-use Rattle.std.proofs.Common.{◌≡◌, ℕ, zero, suc, ◌+◌, ◌<◌, ◌≤◌, List, [], ◌∷◌, ◌++◌, Bool, true, false, length, get_or, set, take, drop, length-set, get_or-set_same, get_or-set_other, refl, sym, ◌∙◌, ap, subst, arith, inl, inr, ◌⊎◌, append-nil, replicate}
+use Rattle.std.proofs.Common.{◌≡◌, ℕ, zero, suc, ◌<◌, ◌≤◌, List, [], ◌∷◌, ◌++◌, Bool, true, false, length, get_or, set, take, drop, length-set, get_or-set_same, get_or-set_other, refl, sym, ◌∙◌, ap, subst, arith, inl, inr, ◌⊎◌, append-nil, replicate}
 use Rattle.std.proofs.lemmas.List.{get_or-replicate, length-replicate}
 use Rattle.std.specs.List.{AllByRecursion}
 use Rattle.std.proofs.lemmas.Bool.{cases_eq, cases_lt}
 use Rattle.hys_prog.specs.Orders.{IsIn, IsNone, AreDifferent}
-use Rattle.hys_order.specs.Links.{link, Untaken, unset, Passed, Below, Ready, AreLinks, head_or, Chain, Round, IsRound, IsTurned}
+use Rattle.hys_order.specs.Links.{link, Untaken, Passed, Ready, head_or, Chain, IsRound, IsTurned}
 use Rattle.hys_order.specs.Answers.{BeginsWithLeast}
-use Rattle.hys_order.proofs.Members.{in_at, at_in, none_in, all_of, each_of, in_left, in_right, in_parts, none_parts, different_between, different_turned, different_right, all_parts, all_left, all_right}
-use Rattle.hys_order.proofs.Taken.{untaken_below, untaken_at, taken_set, unset_set, seen_at}
+use Rattle.hys_order.proofs.Members.{in_at, at_in, all_of, in_left, in_right, in_parts, none_parts, different_between, different_turned, different_right, all_parts, all_left, all_right}
+use Rattle.hys_order.proofs.Taken.{untaken_below, untaken_at}
 
 -- ---- chains
 pub chain_parts : (links : List (List ℕ)) (f : ℕ) (xs ys : List ℕ) → Chain links f (xs ++ ys) → Chain links (head_or f ys) xs × Chain links f ys

@@ -1,8 +1,8 @@
 -- Names that are taken one after the other.
-use Rattle.std.proofs.Common.{◌≡◌, ℕ, zero, suc, ◌<◌, ◌≤◌, List, [], ◌∷◌, ◌++◌, Bool, true, false, length, get_or, set, length-set, get_or-set_same, get_or-set_other, refl, sym, ap, subst, arith, inl, inr, ◌⊎◌, append_assoc, append-nil, not}
+use Rattle.std.proofs.Common.{◌≡◌, ℕ, zero, suc, ◌<◌, ◌≤◌, List, [], ◌∷◌, ◌++◌, Bool, true, false, length, get_or, set, get_or-set_same, get_or-set_other, refl, subst, arith, inl, inr, ◌⊎◌, append_assoc, append-nil}
 use Rattle.std.proofs.lemmas.Bool.{cases_eq}
-use Rattle.hys_prog.specs.Orders.{IsIn, IsFirst}
-use Rattle.hys_order.specs.Links.{link, Untaken, unset, Passed, Below, Ready, Taking, IsStuck, AreCursors, AreLinks}
+use Rattle.hys_prog.specs.Orders.{IsFirst}
+use Rattle.hys_order.specs.Links.{link, Untaken, unset, Passed, Ready, Taking, AreCursors}
 use Rattle.hys_order.proofs.Members.{first_holds}
 
 pub untaken_below : (taken : List Bool) (n : ℕ) → Untaken taken n → n < length taken

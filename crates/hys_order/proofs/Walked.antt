@@ -1,5 +1,5 @@
 -- What was taken in the end, and what is answered then.
-use Rattle.std.proofs.Common.{◌≡◌, ℕ, ◌<◌, List, [], ◌∷◌, Bool, true, length, get_or, refl, sym, ◌∙◌, ap, subst, arith}
+use Rattle.std.proofs.Common.{◌≡◌, ℕ, ◌<◌, List, [], ◌∷◌, Bool, true, length, get_or, ◌∙◌, ap, subst, arith}
 use Rattle.hys_prog.specs.declared.program.Program.{Program}
 use Rattle.hys_prog.specs.declared.program.Name.{Name}
 use Rattle.hys_prog.specs.declared.program.Order.{Order}
@@ -8,7 +8,7 @@ use Rattle.hys_prog.specs.Orders.{Circular, IsOrder}
 use Rattle.hys_order.specs.Lists.{others}
 use Rattle.hys_order.specs.Links.{Untaken, Below, Ready, Taking, IsStuck, AreLinksOf, IsRound, IsTurned}
 use Rattle.hys_order.specs.Answers.{BeginsWithLeast}
-use Rattle.hys_order.proofs.Definable.{ordered, acyclic, circular, none_ready, auxiliaries_below, others_count}
+use Rattle.hys_order.proofs.Definable.{ordered, acyclic, circular, none_ready, auxiliaries_below}
 use Rattle.hys_order.proofs.Rounds.{turned_round}
 
 pub record Walked (p : Program) (links : List (List ℕ)) (taken : List Bool) (order : List ℕ) (end : List Bool) : Type 0 where

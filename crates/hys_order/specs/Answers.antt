@@ -1,5 +1,5 @@
 -- What a call for an order answers.
-use Rattle.std.specs.Prelude.{◌≡◌, ℕ, ◌≤◌, List, [], ◌∷◌, Result, Ok, Err}
+use Rattle.std.specs.Prelude.{ℕ, ◌≤◌, List, [], ◌∷◌, Result, Ok, Err}
 use Rattle.std.specs.List.{AllByRecursion}
 use Rattle.hys_prog.specs.declared.program.Program.{Program}
 use Rattle.hys_prog.specs.declared.program.Order.{Order}

@@ -1,5 +1,5 @@
 -- Names with the lists of names that they lead to, of which some are taken.
-use Rattle.std.specs.Prelude.{◌≡◌, ℕ, suc, ◌<◌, ◌≤◌, List, [], ◌∷◌, Bool, true, false, length, ◌⊎◌, ◌↔◌, ◌++◌, take, drop}
+use Rattle.std.specs.Prelude.{◌≡◌, ℕ, suc, ◌<◌, ◌≤◌, List, [], ◌∷◌, Bool, true, false, length, ◌↔◌, ◌++◌, take, drop}
 use Rattle.std.proofs.Common.{get_or, set}
 use Rattle.std.specs.List.{AllByRecursion}
 use Rattle.hys_prog.specs.Steps.{places, is_auxiliary}

@@ -1,9 +1,7 @@
 -- The names that a definition mentions, as a list.
 use Rattle.std.specs.Prelude.{ℕ, zero, suc, Bool, not, List, [], ◌∷◌, ◌++◌}
 use Rattle.std.proofs.Common.{get_or}
-use Rattle.hys_lin.specs.declared.form.Affine.{Affine}
 use Rattle.hys_lin.specs.declared.form.Term.{Term}
-use Rattle.hys_formula.specs.declared.formula.Formula.{Formula}
 use Rattle.hys_formula.specs.Formulas.{FormulaTree, constant, named, negated, joined, tree_of}
 use Rattle.hys_prog.specs.declared.program.ProgItem.{ProgItem}
 use Rattle.hys_prog.specs.declared.program.Name.{Name}

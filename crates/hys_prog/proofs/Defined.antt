@@ -1,5 +1,5 @@
 -- The items that define names.
-use Rattle.std.proofs.Common.{◌≡◌, ◌≢◌, ℕ, zero, suc, ◌+◌, ◌<◌, List, [], ◌∷◌, length, take, get_or, set, Option, Some, None, Bool, true, false, cond, eqb, refl, sym, ap, subst, arith, inl, inr, ◌⊎◌, get_or-set_same, get_or-set_other, length-set, add-one, eqb-true, eq-eqb, ◌∙◌, ◌≤◌}
+use Rattle.std.proofs.Common.{◌≡◌, ℕ, zero, suc, ◌+◌, ◌<◌, List, [], ◌∷◌, length, take, get_or, set, Option, Some, None, Bool, true, false, cond, refl, sym, ap, subst, arith, inl, inr, ◌⊎◌, get_or-set_same, get_or-set_other, length-set, add-one, eqb-true, ◌∙◌, ◌≤◌}
 use Rattle.std.proofs.lemmas.Bool.{cases_eq}
 use Rattle.std.proofs.lemmas.List.{take_all}
 use Rattle.hys_prog.specs.declared.program.ProgItem.{ProgItem}

@@ -1,10 +1,7 @@
 -- What a definition mentions, orders of definition, and lists of definitions that lead back to their first.
-use Rattle.std.specs.Prelude.{◌≡◌, ℕ, List, [], ◌∷◌, Option, Some, None, Bool, true, false, ◌⊎◌}
-use Rattle.std.proofs.Common.{eqb}
+use Rattle.std.specs.Prelude.{◌≡◌, ℕ, List, [], ◌∷◌, Some, ◌⊎◌}
 use Rattle.std.specs.List.{AllByRecursion}
-use Rattle.hys_lin.specs.declared.form.Affine.{Affine}
 use Rattle.hys_lin.specs.declared.form.Term.{Term}
-use Rattle.hys_formula.specs.declared.formula.Formula.{Formula}
 use Rattle.hys_formula.specs.Formulas.{FormulaTree, constant, named, negated, joined, tree_of}
 use Rattle.hys_prog.specs.declared.program.Body.{Body}
 use Rattle.hys_prog.specs.declared.program.Body.TheVariants.{Guard, Choice, Logic, Linear, NextBool, NextReal, OutBool, OutReal, MustHold, MustMost, MustZero}

@@ -1,8 +1,7 @@
-use Rattle.std.proofs.Common.{◌≡◌, length, arith, ap, sym, ◌∙◌, List, Bool, ℕ}
+use Rattle.std.proofs.Common.{◌≡◌, length, ap, sym, ◌∙◌, List, Bool, ℕ}
 use Rattle.hys_prog.specs.declared.program.Name.{Name}
-use Rattle.hys_order.specs.Lists.{others}
 use Rattle.hys_order.proofs.Definable.{others_count}
-use Rattle.hys_order.proofs.Walked.{walked_of, auxiliaries_are, names_below, order_walked, stuck_walked, round_walked, round_longer}
+use Rattle.hys_order.proofs.Walked.{walked_of, auxiliaries_are, names_below, order_walked, stuck_walked, round_walked}
 use Rattle.hys_order.proofs.definition_order.order.Goals as goal
 
 pub take_ready-requires-clause-count : goal.take_ready-requires-clause-count

@@ -1,4 +1,4 @@
-use Rattle.std.proofs.Common.{◌≡◌, ◌<◌, ◌≤◌, length, arith, IsTrue, ◌++◌, append-nil, List, [], sym, ◌∙◌, ap, ℕ}
+use Rattle.std.proofs.Common.{◌≡◌, ◌<◌, ◌≤◌, length, ◌++◌, append-nil, List, sym, ◌∙◌, ap}
 use Rattle.std.proofs.lemmas.List.{drop_all}
 use Rattle.hys_prog.specs.declared.program.Name.{Name}
 use Rattle.hys_order.specs.Lists.{links_from}

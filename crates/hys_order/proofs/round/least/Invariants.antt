@@ -1,4 +1,4 @@
-use Rattle.std.proofs.Common.{◌≡◌, ℕ, ◌<◌, ◌≤◌, length, get_or}
+use Rattle.std.proofs.Common.{ℕ, ◌<◌, ◌≤◌, length, get_or}
 use Rattle.hys_order.proofs.round.least.Given as goal
 
 abbrev pub invariant-loop-k : goal.invariant-loop-k

@@ -1,7 +1,6 @@
-use Rattle.std.proofs.Common.{◌≡◌, ◌<◌, ◌≤◌, ℕ, IsTrue, length, true, false, get_or, arith, rules, Bool, set, not, sym, ◌∙◌}
-use Rattle.hys_order.specs.Links.{link, Untaken, unset, Ready, IsRound}
-use Rattle.hys_order.proofs.Taken.{untaken_at, untaken_below, unset_set, seen_at}
-use Rattle.hys_order.proofs.Rounds.{IsPath, path_onward, path_end, found_within, unseen, name_within}
+use Rattle.std.proofs.Common.{◌≡◌, true, get_or, sym, ◌∙◌}
+use Rattle.hys_order.proofs.Taken.{unset_set, seen_at}
+use Rattle.hys_order.proofs.Rounds.{path_onward, path_end, found_within, unseen, name_within}
 use Rattle.hys_order.proofs.round.round.Goals as goal
 
 pub loop-seen-smaller : goal.loop-seen-smaller

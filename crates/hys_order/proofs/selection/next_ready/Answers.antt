@@ -1,6 +1,5 @@
-use Rattle.std.proofs.Common.{◌≡◌, ◌<◌, ◌≤◌, ℕ, IsTrue, ◌↔◌, length, true, false, get_or, not, arith, rules}
-use Rattle.hys_prog.specs.Orders.{IsFirst}
-use Rattle.hys_order.specs.Links.{link, Passed, Below, Ready, Untaken}
+use Rattle.std.proofs.Common.{◌<◌, length, get_or}
+use Rattle.hys_order.specs.Links.{Ready, Untaken}
 use Rattle.hys_order.proofs.Members.{first_at}
 use Rattle.hys_order.proofs.Taken.{untaken_at}
 use Rattle.hys_order.proofs.selection.next_ready.Goals as goal

@@ -1,7 +1,5 @@
-use Rattle.std.proofs.Common.{◌≡◌, ◌<◌, ◌≤◌, ℕ, IsTrue, length, true, false, get_or, arith, rules, Bool, set}
-use Rattle.std.specs.Vec.{vec_len}
-use Rattle.hys_prog.specs.Orders.{IsFirst}
-use Rattle.hys_order.specs.Links.{Ready, Untaken, unset}
+use Rattle.std.proofs.Common.{◌<◌, length, arith}
+use Rattle.hys_order.specs.Links.{Untaken}
 use Rattle.hys_order.proofs.Taken.{ready_untaken, untaken_below, unset_set, onward_end}
 use Rattle.hys_order.proofs.selection.take_ready.Goals as goal
 
