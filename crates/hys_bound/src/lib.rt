@@ -1,0 +1,10 @@
+//! The intervals of the names of a program.
+#![tactic(auto)]
+
+mod along;
+mod fault;
+mod ranges;
+
+pub use along::bounds;
+pub use fault::BoundFault;
+pub use ranges::interval_of;
