@@ -1,15 +1,17 @@
 -- A pivot in memory is the tableau's, and the first cell that is shown is the first that doesn't fit under it.
-use Rattle.std.proofs.Common.{◌≡◌, ◌≢◌, ℕ, ◌+◌, ◌<◌, ◌≤◌, ◌==◌, ◌&&◌, ◌⊎◌, inl, inr, if◌then◌else◌, Bool, true, false, refl, sym, ◌∙◌, ap, ap₂, subst, arith, Option, Some, None, List, length, slice_index_or, slice_set}
+use Rattle.std.proofs.Common.{◌≡◌, ◌≢◌, ℕ, ◌+◌, ◌*◌, ◌^◌, ◌<◌, ◌≤◌, ◌==◌, ◌&&◌, ◌⊎◌, inl, inr, if◌then◌else◌, Bool, true, false, refl, sym, ◌∙◌, ap, ap₂, subst, arith, Option, Some, None, List, length, slice_index_or, slice_set}
 use Rattle.std.proofs.lemmas.List.{get_or-set_same, get_or-set_other, length-set}
+use Rattle.std.proofs.lemmas.List.Elements.{All-from_get_or}
 use Rattle.hys_number.specs.Number.{Number}
 use Rattle.hys_number.specs.Ops.{fits}
-use Rattle.hys_simplex.specs.Tableau.{Tableau, pivoted, pivot, put}
+use Rattle.hys_simplex.specs.Tableau.{Tableau, start, pivoted, pivot, put}
 use Rattle.hys_simplex.specs.Unfit.{subtracted, CellUnfit}
 use Rattle.hys_simplex.specs.Alike.{IsAlike}
 use Rattle.hys_simplex.proofs.Same.{same_yes, same_no}
 use Rattle.hys_simplex.proofs.Pivots.{put_at, put_else, same_place}
-use Rattle.hys_tab.specs.Cells.{cell_at, fits_under, IsFirstAt}
-use Rattle.hys_tab.specs.Table.{Table, tableau_of}
+use Rattle.hys_relax.specs.LinearProgram.{LinearProgram}
+use Rattle.hys_tab.specs.Cells.{cell_at, fits_under, IsFirstAt, AllFit}
+use Rattle.hys_tab.specs.Table.{Table, IsTable, tableau_of}
 use Rattle.hys_tab.specs.Fits.{IsBefore, IsFirstUnfit, FitsUnder}
 use Rattle.hys_tab.proofs.Steps.{fits_in_row, fits_in_column, fits_apart}
 
@@ -113,3 +115,30 @@ pub pivot_in : (t : Table) (xs ys : List Number) (m n r c x y : ℕ) → m ≡ l
     ((a b : ℕ) → a < m + 1 → b < n + 1 → cell_at ys (n + 1) a b ≡ pivoted (cell_at xs (n + 1)) r c a b) →
     IsAlike (tableau_of (record { cells = ys; basics = slice_set t.basics r x; outsides = slice_set t.outsides c y })) (pivot (tableau_of t) r c)
 pivot_in t xs ys m n r c x y e f g lr lc ex ey done = pivot_is t ys r c x y lr lc ex ey (rw (e, f, g) at done)
+
+-- ---- the slack basis
+pub begins : (ys : List Number) (bs os : List ℕ) (m n : ℕ) → length ys ≡ (m + 1) * (n + 1) → m < 2 ^ 32 → n < 2 ^ 32 → length bs ≡ m → ((i : ℕ) → i < m → slice_index_or bs i 0 ≡ n + i) →
+    length os ≡ n → ((i : ℕ) → i < n → slice_index_or os i 0 ≡ 0 + i) → AllFit ys (m + 1) (n + 1) → IsTable (record { cells = ys; basics = bs; outsides = os })
+begins ys bs os m n e lm ln em b en o f = record {
+  shape = rw (em, en) e;
+  few_rows = rw em lm;
+  few_columns = rw en ln;
+  basics = All-from_get_or (λ u. u < length os + length bs) bs 0 (λ i l. omega (arith, em, en, b i (omega (arith, l, em))));
+  outsides = All-from_get_or (λ u. u < length os + length bs) os 0 (λ i l. omega (arith, em, en, l, o i (omega (arith, l, en))));
+  fit = rw (em, en) f;
+}
+
+pub begins_alike : (P : LinearProgram) (ys : List Number) (bs os : List ℕ) → length bs ≡ P.rows → ((i : ℕ) → i < P.rows → slice_index_or bs i 0 ≡ P.columns + i) →
+    length os ≡ P.columns → ((i : ℕ) → i < P.columns → slice_index_or os i 0 ≡ 0 + i) →
+    ((a b : ℕ) → a < P.rows + 1 → b < P.columns + 1 → cell_at ys (P.columns + 1) a b ≡ (start P).cell a b) → IsAlike (tableau_of (record { cells = ys; basics = bs; outsides = os })) (start P)
+begins_alike P ys bs os em b en o cs = record {
+  wide = en;
+  tall = em;
+  cells = λ i j l m. ap (λ z. cell_at ys (z + 1) i j) en ∙ cs i j (omega (arith, l, em)) (omega (arith, m, en));
+  basics = λ i l. basic_is i (same_place i (length bs)) (omega (arith, l));
+  outsides = λ j l. o j (omega (arith, l, en)) ∙ omega arith;
+}
+  where
+    basic_is : (i : ℕ) → (i ≡ length bs) ⊎ (i ≢ length bs) → i ≤ length bs → (if i == length bs then length os + length bs else slice_index_or bs i 0) ≡ P.columns + i
+    basic_is i (inl e) l = subst (λ z. (if z == length bs then length os + length bs else slice_index_or bs z 0) ≡ P.columns + z) (sym e) (rw (same_yes (length bs)) (omega (arith, en)))
+    basic_is i (inr d) l = rw (same_no i (length bs) (λ z. d (sym z))) (b i (omega (arith, l, d, em)))

@@ -2,6 +2,7 @@
 #![tactic(auto)]
 
 mod cells;
+mod slack_basis;
 mod tableau;
 
-pub use tableau::{Cell, Tableau};
+pub use tableau::{Cell, Tableau, start};

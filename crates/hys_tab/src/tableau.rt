@@ -1,15 +1,23 @@
-ghost use Rattle.std.specs.Prelude.{◌≡◌, ◌≢◌, ◌+◌, ◌^◌, ◌<◌, ◌≤◌, length, IfOk, IfErr};
+ghost use Rattle.std.specs.Prelude.{◌≡◌, ◌≢◌, ◌+◌, ◌^◌, ◌<◌, ◌≤◌, ℕ, length, IfOk, IfErr};
+ghost use Rattle.std.specs.List.{slice_index_or};
 ghost use Rattle.hys_number.specs.Ops.{whole};
-ghost use Rattle.hys_simplex.specs.Tableau.{pivot as pivot_of};
+ghost use Rattle.hys_lin.specs.Problem.{IsProblem};
+ghost use Rattle.hys_relax.specs.LinearProgram.{linear_program};
+ghost use Rattle.hys_simplex.specs.Tableau.{start as start_of, pivot as pivot_of};
 ghost use Rattle.hys_simplex.specs.Alike.{IsAlike};
 ghost use Rattle.hys_tab.specs.Table.{tableau_of, variable_of};
 ghost use Rattle.hys_tab.specs.Fits.{IsFirstUnfit, FitsUnder};
 
 use crate::cells::{Pivot, first_unfit, write_rows};
+use crate::slack_basis::fill;
 use hys_frac::Frac;
+use hys_lin::Problem;
 use hys_relax::Var;
 use std::alloc::{AllocError, Global};
 use std::marker::Model;
+
+// A table has fewer rows, and fewer columns, without those of the cost and the constants.
+const MOST: usize = 0xffff_ffff;
 
 /// The first cell, row by row, whose new number under a pivot, or the product that is subtracted to
 /// make it, doesn't fit.
@@ -128,6 +136,46 @@ impl Tableau {
             outside,
         })
     }
+}
+
+/// The tableau of the slack basis: a row of the problem has its factors and its bound, the cost row
+/// the negated factors and the constant of the cost. More than 2^32 - 2 rows or columns are too many.
+pub fn start(alloc: Global, problem: &Problem) -> Result<Tableau, AllocError>
+    requires { IsProblem problem.now }
+    ensures { IfOk result (λ t. IsAlike (tableau_of t) (start_of (linear_program problem.now))) }
+{
+    let rows = problem.rows.items().len();
+    let columns = problem.boxes.items().len();
+    if rows >= MOST || columns >= MOST {
+        return Err(AllocError);
+    }
+    match (rows + 1).checked_mul(columns + 1) {
+        None => Err(AllocError),
+        Some(size) => {
+            let mut cells = vec![in alloc; Frac::whole(0); size]?;
+            fill(cells.as_mut_slice(), problem);
+            let basic = numbers(alloc, columns, rows)?;
+            let outside = numbers(alloc, 0, columns)?;
+            Ok(Tableau {
+                cells,
+                basic,
+                outside,
+            })
+        }
+    }
+}
+
+// So many numbers, from the first on.
+fn numbers(alloc: Global, first: usize, count: usize) -> Result<Vec<usize>, AllocError>
+    requires { first + count < 2 ^ 64 }
+    ensures length { IfOk result (λ v. length v.items ≡ count) }
+    ensures each { IfOk result (λ v. (i : ℕ) → i < count → slice_index_or v.items i 0 ≡ first + i) }
+{
+    let mut list = vec![in alloc; 0; count]?;
+    for i in 0..count {
+        list[i] = first + i;
+    }
+    Ok(list)
 }
 
 // The variable of a number, where there are so many columns.
