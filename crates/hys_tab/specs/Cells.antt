@@ -1,0 +1,54 @@
+-- Cells that stand in a list, row by row, and which of them fit under a pivot.
+use Rattle.std.specs.Prelude.{◌≡◌, ◌≢◌, ℕ, ◌+◌, ◌*◌, ◌<◌, ◌==◌, ◌&&◌, if◌then◌else◌, Bool, true, false, List, [], Option, Some, None}
+use Rattle.std.specs.List.{slice_index_or}
+use Rattle.std.proofs.Common.{get_or}
+use Rattle.hys_number.specs.Number.{Number}
+use Rattle.hys_number.specs.Ops.{whole, fits, neg}
+use Rattle.hys_lin.specs.Scaled.{coefficient}
+use Rattle.hys_lin.specs.declared.form.Term.{Term}
+use Rattle.hys_lin.specs.declared.form.Row.{Row}
+use Rattle.hys_simplex.specs.Tableau.{pivoted}
+use Rattle.hys_simplex.specs.Unfit.{subtracted}
+
+-- the cell at row i and column j of rows that are w wide
+abbrev pub cell_at : List Number → ℕ → ℕ → ℕ → Number
+cell_at xs w i j = slice_index_or xs (i * w + j) (whole 0)
+
+-- whether the new number of a cell fits, and the product that is subtracted to make it, where there is one
+abbrev pub fits_under : (ℕ → ℕ → Number) → ℕ → ℕ → ℕ → ℕ → Bool
+fits_under M r c i j =
+    if i == r
+    then fits (pivoted M r c i j)
+    else (if j == c then fits (pivoted M r c i j) else fits (subtracted M r c i j) && fits (pivoted M r c i j))
+
+-- every cell fits
+abbrev pub AllFit : List Number → ℕ → ℕ → Type 0
+AllFit xs h w = (i j : ℕ) → i < h → j < w → fits (cell_at xs w i j) ≡ true
+
+-- the first place below n that doesn't pass, and none where all pass
+abbrev pub IsFirstIn : (ℕ → Bool) → ℕ → Option ℕ → Type 0
+IsFirstIn ok n None = (k : ℕ) → k < n → ok k ≡ true
+IsFirstIn ok n (Some at) = (at < n) × (ok at ≡ false) × ((k : ℕ) → k < at → ok k ≡ true)
+
+-- the first place, row by row, that doesn't pass
+abbrev pub IsFirstAt : (ℕ → ℕ → Bool) → ℕ → ℕ → Option (ℕ × ℕ) → Type 0
+IsFirstAt ok h w None = (i j : ℕ) → i < h → j < w → ok i j ≡ true
+IsFirstAt ok h w (Some at) = (at.0 < h) × (at.1 < w) × (ok at.0 at.1 ≡ false) × ((j : ℕ) → j < at.1 → ok at.0 j ≡ true) × ((i j : ℕ) → i < at.0 → j < w → ok i j ≡ true)
+
+-- the number, negated where so wished
+abbrev pub turned : Bool → Number → Number
+turned negated a = if negated then neg a else a
+
+-- the cell at column j of a row of the slack basis that is w wide: the constant in its last column, before it the
+-- factors of the terms, negated where so wished
+abbrev pub slack_cell : ℕ → List Term → Number → Bool → ℕ → Number
+slack_cell w ts constant negated j = if j + 1 == w then constant else turned negated (coefficient ts j)
+
+-- the row at a place
+abbrev pub row_of : List Row → ℕ → Row
+row_of rows i = get_or rows i (record { terms = []; bound = whole 0; eq = false })
+
+-- another place
+pub data IsOther (i j a b : ℕ) : Type 0 where
+  row : a ≢ i → IsOther i j a b
+  column : b ≢ j → IsOther i j a b

@@ -1,0 +1,8 @@
+//! The exact tableau of a linear problem, and its pivots in place.
+#![tactic(auto)]
+
+mod cells;
+mod slack_basis;
+mod tableau;
+
+pub use tableau::{Cell, Tableau, start};
