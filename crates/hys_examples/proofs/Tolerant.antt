@@ -7,18 +7,16 @@ use Rattle.std.specs.Float.Numeral.{scan_numeral}
 use Rattle.hys_number.specs.Number.{Number, make}
 use Rattle.hys_number.specs.Gcd.{gcd}
 use Rattle.hys_number.specs.Ops.{◌+ₙ◌, ◌-ₙ◌, ◌*ₙ◌, ◌/ₙ◌, neg, inverse, ◌≤ₙ◌, ◌<ₙ◌, whole}
-use Rattle.hys_number.proofs.Laws.{ratio}
 use Rattle.hys_number.proofs.Field.{not-le}
 use Rattle.hys_lin.specs.Bits.{bit, is_one}
-use Rattle.hys_meaning.specs.Values.{Assignment, literal, value, guard_number}
+use Rattle.hys_meaning.specs.Values.{Assignment, literal}
 use Rattle.hys_meaning.specs.Steps.{Legal, Stuck, GuardCase, GapOf}
 use Rattle.hys_meaning.specs.Unfolded.{unfolded, guard_name}
-use Rattle.hys_meaning.specs.Circular.{Circular}
+use Rattle.hys_meaning.specs.Circular.{Circular, Leads}
 use Rattle.hys_examples.specs.Sources.{tolerance, n_over}
-use Rattle.hys_examples.specs.Trees.{name, number}
 use Rattle.hys_examples.specs.Last.{own, inner, inner_by, with_all, everywhere, everywhere_by, through_guard, through_by, LastForm}
 use Rattle.hys_examples.specs.OneStep.{OneStep}
-use Rattle.hys_examples.proofs.Numbers.{head_same, never, real_not_bool, decides, literal-0, literal-4, literal-5, literal-10, literal-1, whole-is, over-is, in_low, in_high, edge, four_high, low_of, bit_low, bit_high, bit_is}
+use Rattle.hys_examples.proofs.Numbers.{head_same, never, real_not_bool, decides, literal-0, literal-4, literal-5, literal-10, whole-is, over-is, in_low, in_high, edge, four_high, low_of, bit_low, bit_high, bit_is}
 use Rattle.hys_examples.proofs.Guarded.{at_x, true_of, false_of}
 
 -- ---- numbers
@@ -219,6 +217,9 @@ circle = ((refl, (refl, (refl, tt))), refl, (inr (inl (refl, refl)), (inl (refl,
 through_named : unfolded through_guard ≡ through_by (codes "@1")
 through_named = ap through_by first
 
+no_mention : ¬ (Leads (through_by (codes "@1")) (codes "d") (codes "z"))
+no_mention k = elim k [ inl p ↦ never p.0 | inr q ↦ elim q [ inl p ↦ never p.1 | inr r ↦ elim r [ inl p ↦ never p.0 | inr s ↦ s ] ] ]
+
 pub last_form : LastForm
 last_form = record {
   inner_named = inner_named;
@@ -227,5 +228,6 @@ last_form = record {
   tolerance_typed = record { values = (tt, (tt, tt)); boxes = ((tt, tt), ((tt, tt), tt)); items = ((refl, ((refl, refl, tt), ((tt, tt, (λ n. refl, not_zero)), half_positive))), ((refl, refl), tt)) };
   zero_refused = λ t. zero_not_positive t.items.0.1.1.1;
   comparison_refused = λ t. t.items.0.1.1.0.2;
+  no_mention = subst (λ s. ¬ (Leads s (codes "d") (codes "z"))) (sym through_named) no_mention;
   circle = subst (λ s. Circular s (codes "d" ∷ codes "@1" ∷ codes "z" ∷ [])) (sym through_named) circle;
 }

@@ -1,11 +1,11 @@
 -- Sources with guards that have a tolerance of their own, or no name.
-use Rattle.std.specs.Prelude.{◌≡◌, ℕ, List, [], ◌∷◌, codes, Some, None, true, false}
+use Rattle.std.specs.Prelude.{◌≡◌, ℕ, List, [], ◌∷◌, codes, Some, None}
 use Rattle.hys_ast.specs.declared.tree.BinaryOp.TheVariants as binary
 use Rattle.hys_ast.specs.declared.source.Section.TheVariants as section
 use Rattle.hys_ast.specs.Tree.{Tree, Decl, Item, Source}
 use Rattle.hys_ast.specs.Tree as tree
-use Rattle.hys_meaning.specs.Typed.{Typed, Bounded, DeclaredOnce, DefinedOnce}
-use Rattle.hys_meaning.specs.Circular.{Circular}
+use Rattle.hys_meaning.specs.Typed.{Typed}
+use Rattle.hys_meaning.specs.Circular.{Circular, Leads}
 use Rattle.hys_meaning.specs.Unfolded.{unfolded}
 use Rattle.hys_meaning.specs.Weight.{weight}
 use Rattle.hys_examples.specs.Trees.{somewhere, number, name, cast, negated, both, real_in, real, bool, item, choice, must}
@@ -99,5 +99,7 @@ pub record LastForm : Type 0 where
   pub zero_refused : ¬ (Typed (unfolded (tolerant_by (number (codes "0")))))
   -- a comparison is no tolerance
   pub comparison_refused : ¬ (Typed (unfolded (tolerant_by low)))
+  -- what stands within a comparison is no mention by the item around it
+  pub no_mention : ¬ (Leads (unfolded through_guard) (codes "d") (codes "z"))
   -- a circle through a guard
   pub circle : Circular (unfolded through_guard) (codes "d" ∷ codes "@1" ∷ codes "z" ∷ [])
