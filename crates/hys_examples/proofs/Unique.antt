@@ -4,6 +4,7 @@ use Rattle.std.specs.List.{AllByRecursion}
 use Rattle.hys_number.specs.Number.{Number}
 use Rattle.hys_ast.specs.Tree.{Source}
 use Rattle.hys_meaning.specs.Folding.{Computed, first_unfit, folded}
+use Rattle.hys_meaning.specs.Unfolded.{unfolded}
 use Rattle.hys_examples.specs.Ranges.{auxiliaries, IsTaken, IsReady, IsFirst, IsOrder, IsOrderAfter}
 use Rattle.hys_examples.specs.Fitting.{Fits, IsFirstBuilt, IsFirstUnfit, built}
 
@@ -45,7 +46,7 @@ differ o c e f = is_none (subst (λ x. x ≡ Some c) e f)
     is_none g = absurd (cc)
 
 same_built : (t : Number) (s : Source) (c d : Computed) → IsFirstBuilt t s c → IsFirstBuilt t s d → c ≡ d
-same_built t s c d h k = some_same c d (sym h.first ∙ (ap (λ o. first_unfit (built t s o)) (one_order s h.order k.order h.is_order k.is_order) ∙ k.first))
+same_built t s c d h k = some_same c d (sym h.first ∙ (ap (λ o. first_unfit (built t s o)) (one_order (unfolded s) h.order k.order h.is_order k.is_order) ∙ k.first))
 
 pub one_first : (t : Number) (s : Source) (c d : Computed) → IsFirstUnfit t s c → IsFirstUnfit t s d → c ≡ d
 one_first t s c d (inl h) (inl k) = some_same c d (sym h ∙ k)
@@ -55,9 +56,9 @@ one_first t s c d (inr h) (inr k) = same_built t s c d h k
 
 pub not_both : (t : Number) (s : Source) (c : Computed) → Fits t s → ¬ (IsFirstUnfit t s c)
 not_both t s c f (inl h) = differ _ c f.expressions h
-not_both t s c f (inr h) = differ _ c f.built_fit (ap (λ o. first_unfit (built t s o)) (one_order s f.order h.order f.is_order h.is_order) ∙ h.first)
+not_both t s c f (inr h) = differ _ c f.built_fit (ap (λ o. first_unfit (built t s o)) (one_order (unfolded s) f.order h.order f.is_order h.is_order) ∙ h.first)
 
-pub either : (t : Number) (s : Source) (order : List (List ℕ)) → IsOrder s order → Fits t s ⊎ ((c : Computed) × IsFirstUnfit t s c)
+pub either : (t : Number) (s : Source) (order : List (List ℕ)) → IsOrder (unfolded s) order → Fits t s ⊎ ((c : Computed) × IsFirstUnfit t s c)
 either t s order o = by_folded (first_unfit (folded s)) refl
   where
     by_built : first_unfit (folded s) ≡ None → (r : Option Computed) → first_unfit (built t s order) ≡ r → Fits t s ⊎ ((c : Computed) × IsFirstUnfit t s c)

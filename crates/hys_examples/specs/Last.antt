@@ -89,7 +89,7 @@ with_all is = record { system = codes "e"; decls = declared; items = is }
 
 -- what is said of these sources
 pub record LastForm : Type 0 where
-  -- the guard within a formula gets its name, and the weight is that of two columns more than the declared ones
+  -- the guard within a formula gets its name, and weighs as much as a declared one
   pub inner_named : unfolded inner ≡ inner_by (codes "@1")
   pub inner_weight : weight inner ≡ 5
   -- an inner comparison at every place, numbered by items

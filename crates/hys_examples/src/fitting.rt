@@ -9,7 +9,7 @@ ghost use Rattle.hys_ast.specs.declared.tree.BinaryOp.TheVariants as binary;
 ghost use Rattle.std.specs.List.{AllByRecursion};
 ghost use Rattle.hys_ast.specs.declared.place.Place.{Place};
 ghost use Rattle.hys_ast.specs.Tree.{Tree, Source};
-ghost use Rattle.hys_meaning.specs.Unfolded.{is_inequality};
+ghost use Rattle.hys_meaning.specs.Unfolded.{is_inequality, unfolded};
 ghost use Rattle.hys_meaning.specs.Typed.{IsReal, IsComparison};
 ghost use Rattle.hys_meaning.specs.Forms.{Form, form, guard_form, IsConstant};
 ghost use Rattle.hys_meaning.specs.Names.{Name, names};
@@ -26,7 +26,7 @@ pub fn one_or_none()
     ensures order { (s : Source) (a b : List (List ℕ)) → IsOrder s a → IsOrder s b → a ≡ b }
     ensures first { (t : Number) (s : Source) (c d : Computed) → IsFirstUnfit t s c → IsFirstUnfit t s d → c ≡ d }
     ensures not_both { (t : Number) (s : Source) (c : Computed) → Fits t s → ¬ (IsFirstUnfit t s c) }
-    ensures either { (t : Number) (s : Source) (order : List (List ℕ)) → IsOrder s order → Fits t s ⊎ ((c : Computed) × IsFirstUnfit t s c) }
+    ensures either { (t : Number) (s : Source) (order : List (List ℕ)) → IsOrder (unfolded s) order → Fits t s ⊎ ((c : Computed) × IsFirstUnfit t s c) }
 {}
 
 /// Where the values of parameters and the numbers of an expression fit, so do the factors and the
