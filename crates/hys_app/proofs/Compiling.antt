@@ -8,7 +8,7 @@ use Rattle.hys_compile.specs.declared.fault.SourceFault.{SourceFault}
 use Rattle.hys_compile.specs.declared.fault.LimitKind.TheVariants.{Bytes}
 use Rattle.hys_compile.specs.Faults.{over_limit, no_memory}
 use Rattle.hys_compile.specs.Text.{most_bytes, IsCause, IsCompiled, IsPlainText, IsRefusal, too_long}
-use Rattle.hys_app.specs.Lines.{usage_line, read_line, refused_line}
+use Rattle.hys_app.specs.Lines.{read_line, refused_line}
 use Rattle.hys_app.specs.Ends.{IsReached}
 use Rattle.hys_app.specs.Compiling.{saying, CausedBy, CompiledFrom, HoldsPlain, IsPutFor, IsUsage, IsJudged, refused, compiled, IsCompileOutcome, unread, read}
 use Rattle.hys_app.specs.declared.status.Status.TheVariants.{Done, Usage, Read, Source}

@@ -1,10 +1,10 @@
 -- From what the calls say to how a run ends.
-use Rattle.std.proofs.Common.{◌≡◌, ℕ, ◌≤◌, List, Option, refl, sym, ◌∙◌}
-use Rattle.hys_io.specs.Outside.{Named, Rose, IfAppended}
+use Rattle.std.proofs.Common.{◌≡◌, ◌≤◌, sym, ◌∙◌}
+use Rattle.hys_io.specs.Outside.{Rose, IfAppended}
 use Rattle.hys_app.specs.declared.status.Status.{Status}
 use Rattle.hys_app.specs.declared.status.Status.TheVariants.{Write, Memory}
 use Rattle.hys_app.specs.declared.outcome.Outcome.{Outcome}
-use Rattle.hys_app.specs.Ends.{Outside, Ends, unmade, reached, IsCarriedOut, unput, torn, cut, short, whole, IsFilePut, IsPut, IsTorn, IsReached, IsUntouched, IfPart}
+use Rattle.hys_app.specs.Ends.{Outside, Ends, unmade, reached, IsCarriedOut, unput, torn, cut, short, whole, IsPut, IsTorn, IsReached, IfPart}
 
 pub by_unput : (o : Outcome) (result : Status) (old new : Outside) → result ≡ Memory → new.held ≡ old.held → new.put_faults ≡ old.put_faults →
     new.written ≡ old.written → new.faults ≡ old.faults → IsCarriedOut o result old new

@@ -10,7 +10,6 @@ use Rattle.hys_compile.specs.Text.{IsCause, IsCompiled, IsPlainText}
 use Rattle.hys_app.specs.Lines.{usage_line, read_line, refused_line, compiled_line}
 use Rattle.hys_app.specs.declared.status.Status.{Status}
 use Rattle.hys_app.specs.declared.status.Status.TheVariants.{Done, Usage, Read, Source}
-use Rattle.hys_app.specs.declared.outcome.NewFile.{NewFile}
 use Rattle.hys_app.specs.declared.outcome.Outcome.{Outcome}
 
 -- a line alone

@@ -2,7 +2,6 @@
 use Rattle.std.specs.Prelude.{ℕ, List, [], ◌∷◌, ◌++◌, length, codes}
 use Rattle.std.specs.Fmt.{decimal}
 use Rattle.hys_frac.specs.Written.{number_text}
-use Rattle.hys_lin.specs.declared.lost.Lost.{Lost}
 use Rattle.hys_lin.specs.declared.lost.Op.{Op}
 use Rattle.hys_lin.specs.declared.lost.Op.TheVariants as op
 use Rattle.hys_ast.specs.declared.place.Place.{Place}

@@ -1,5 +1,5 @@
 -- A plain source has no unnamed guard and no connective, so its weight is the number of its states and inputs.
-use Rattle.std.proofs.Common.{◌≡◌, ℕ, ◌+◌, List, [], ◌∷◌, ◌++◌, map, filter, length, Bool, true, false, true≢false, ◌||◌, ◌⊎◌, inl, inr, cond, IsTrue, refl, sym, ◌∙◌, ap, ap₂, subst, arith, flat_map, count_by, sum_by}
+use Rattle.std.proofs.Common.{◌≡◌, ℕ, ◌+◌, List, [], ◌∷◌, ◌++◌, map, filter, length, true, true≢false, ◌⊎◌, inl, inr, cond, IsTrue, refl, sym, ap₂, subst, arith, flat_map, count_by, sum_by}
 use Rattle.std.specs.List.{AllByRecursion}
 use Rattle.std.proofs.lemmas.Bool.{and_parts, or_cases}
 use Rattle.std.proofs.lemmas.List.Sums.{sum_by-cons}
@@ -12,11 +12,11 @@ use Rattle.hys_ast.specs.Tree.{Tree, Decl, Shape, Item, Source}
 use Rattle.hys_ast.specs.Tree as tree
 use Rattle.hys_ast.specs.Nodes.{shape_expressions}
 use Rattle.hys_meaning.specs.Values.{Assignment}
-use Rattle.hys_meaning.specs.Names.{Name, names, name_of, parameters, is_state, is_input}
+use Rattle.hys_meaning.specs.Names.{Name, name_of, parameters, is_state, is_input}
 use Rattle.hys_meaning.specs.Typed.{is_demand}
-use Rattle.hys_meaning.specs.Unfolded.{Guard, Naming, named, named_shape, named_item, named_items, guards, unfolded}
-use Rattle.hys_meaning.specs.Weight.{connectives, item_weight, has_column, named_weight, weight}
-use Rattle.hys_plain.specs.Plain.{IsPlain, is_literal, is_signed_literal, is_name, is_part, is_sum, is_plain_shape, is_plain_item, is_plain_decl, declared_texts, names_in, lone_literals}
+use Rattle.hys_meaning.specs.Unfolded.{Guard, Naming, named, named_shape, named_item, named_items, guards}
+use Rattle.hys_meaning.specs.Weight.{connectives, item_weight, has_column, named_weight}
+use Rattle.hys_plain.specs.Plain.{IsPlain, is_literal, is_signed_literal, is_name, is_part, is_sum, is_plain_shape, is_plain_item, is_plain_decl, declared_texts}
 use Rattle.hys_compile.specs.Automaton.{named as named_in}
 use Rattle.hys_compile.proofs.Declared.{IsPlainDecl, plain_decl, state_or_input}
 use Rattle.hys_compile.proofs.Items.{section_of}
