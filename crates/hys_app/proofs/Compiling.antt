@@ -17,7 +17,7 @@ use Rattle.hys_app.specs.declared.outcome.Outcome.{Outcome}
 refused_one : (text target : List ℕ) (fault : SourceFault) (o : Outcome) → o ≡ saying Source (refused_line fault) → IsRefusal text fault →
     (fault ≡ no_memory → ⊥) → (IsPlainText text → fault ≡ no_memory) → IsJudged (IsCause text) (IsCompiled text) (IsPlainText text) target o
 refused_one text target fault o e (inl memory) other plain = absurd (other memory)
-refused_one text target fault o e (inr cause) other plain = subst (IsJudged (IsCause text) (IsCompiled text) (IsPlainText text) target) (sym e) (refused fault cause (λ p. other (plain p)))
+refused_one text target fault o e (inr cause) other plain = subst (IsJudged (IsCause text) (IsCompiled text) (IsPlainText text) target) (sym e) (refused fault cause other (λ p. other (plain p)))
 
 pub compiled_of : (text target : List ℕ) (system : System) (o : Outcome) → IsPutFor system target o → IsCompiled text system →
     IsJudged (IsCause text) (IsCompiled text) (IsPlainText text) target o
@@ -48,8 +48,8 @@ compiled_from held name text system h c = (c.lawful, of_file held name text (λ 
 
 judged_from : (held : Option Named) (name text target : List ℕ) (o : Outcome) → IfHolds held name (λ file. text ≡ file) →
     IsJudged (IsCause text) (IsCompiled text) (IsPlainText text) target o → IsJudged (CausedBy held name) (CompiledFrom held name) (HoldsPlain held name) target o
-judged_from held name text target o h (refused fault cause never) =
-    refused fault (of_file held name text (λ file. IsCause file fault) h cause)
+judged_from held name text target o h (refused fault cause other never) =
+    refused fault (of_file held name text (λ file. IsCause file fault) h cause) other
     (not_plain held name (λ file. text ≡ file) (λ file e p. never (subst IsPlainText (sym e) p)) h)
 judged_from held name text target o h (compiled system c) = compiled system (compiled_from held name text system h c)
 
@@ -80,13 +80,16 @@ unread_one held source target o r r' e more rose =
       reads = record { failed = λ d. (more, rose); unput = λ d. ap (λ (p : Outcome). p.file) e; calm = λ d. absurd (d s); not_write = λ d. cc; not_memory = λ d. cc };
     }
 
+over_not_memory : over_limit Bytes ≡ no_memory → ⊥
+over_not_memory e = let d = ap (λ (f : SourceFault). f.detail) e in absurd (cc)
+
 long_one : (held : Option Named) (source target : List ℕ) (fault : SourceFault) (o : Outcome) (r r' : ℕ) → o ≡ saying Source (refused_line fault) →
     fault ≡ over_limit Bytes → IfHolds held source (λ file. most_bytes < length file) → r' ≡ r → IsReached (IsCompileOutcome held source target) o r r'
 long_one held source target fault o r r' e f long c =
     let cause : CausedBy held source fault = over_file held source fault f long in
     let never : HoldsPlain held source → ⊥ = not_plain held source (λ file. most_bytes < length file) long_not_plain long in
     let l : IsCompileOutcome held source target o =
-    read o (subst (IsJudged (CausedBy held source) (CompiledFrom held source) (HoldsPlain held source) target) (sym e) (refused fault cause never)) in
+    read o (subst (IsJudged (CausedBy held source) (CompiledFrom held source) (HoldsPlain held source) target) (sym e) (refused fault cause (λ m. over_not_memory (sym f ∙ m)) never)) in
     reached_alone (IsCompileOutcome held source target) o r r' (inr (inr (ap (λ (p : Outcome). p.status) e))) l c
   where
     over_file : (held : Option Named) (name : List ℕ) (fault : SourceFault) → fault ≡ over_limit Bytes → IfHolds held name (λ file. most_bytes < length file) → CausedBy held name fault
@@ -98,7 +101,7 @@ long_one held source target fault o r r' e f long c =
 
 judged_status : (Has : SourceFault → Type 0) (Means : System → Type 0) (Plain : Type 0) (target : List ℕ) (o : Outcome) → IsJudged Has Means Plain target o →
     (o.status ≡ Done) ⊎ (o.status ≡ Usage) ⊎ (o.status ≡ Source)
-judged_status Has Means Plain target o (refused fault cause never) = inr (inr refl)
+judged_status Has Means Plain target o (refused fault cause known never) = inr (inr refl)
 judged_status Has Means Plain target o (compiled system c) = inl refl
 
 read_one : (held : Option Named) (source target text seen : List ℕ) (o : Outcome) (r r' : ℕ) → IsJudged (IsCause seen) (IsCompiled seen) (IsPlainText seen) target o →

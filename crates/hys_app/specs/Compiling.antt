@@ -1,11 +1,12 @@
 -- The lawful outcomes of `compile SRC MLD`, and of words that match no form.
-use Rattle.std.specs.Prelude.{◌≡◌, ℕ, List, Option, None, Some}
+use Rattle.std.specs.Prelude.{◌≡◌, ◌≢◌, ℕ, List, Option, None, Some}
 use Rattle.std.specs.FinMap as map
 use Rattle.hys_io.specs.Outside.{Named, IfHolds}
 use Rattle.hys_sys.specs.System.{IsSystem}
 use Rattle.hys_sys.specs.Matrix.{matrix_text}
 use Rattle.hys_sys.specs.declared.system.System.{System}
 use Rattle.hys_compile.specs.declared.fault.SourceFault.{SourceFault}
+use Rattle.hys_compile.specs.Faults.{no_memory}
 use Rattle.hys_compile.specs.Text.{IsCause, IsCompiled, IsPlainText}
 use Rattle.hys_app.specs.Lines.{usage_line, read_line, refused_line, compiled_line}
 use Rattle.hys_app.specs.declared.status.Status.{Status}
@@ -47,10 +48,10 @@ IsPutFor system target o = o ≡ putting target (matrix_text system) Done (compi
 
 -- ---- `compile SRC MLD`
 -- Of a source that is read, with the faults that it has, the systems that it may get, and what it is to be plain:
--- it is refused by a fault that it has, and never if it is plain; or the matrix text of its system is put under the
+-- it is refused by a fault that it has, which is no want of memory, and never if it is plain; or the matrix text of its system is put under the
 -- target, and the line counts that system's columns and rows.
 pub data IsJudged (Has : SourceFault → Type 0) (Means : System → Type 0) (Plain : Type 0) (target : List ℕ) : Outcome → Type 0 where
-  refused : (fault : SourceFault) → Has fault → ¬ Plain → IsJudged Has Means Plain target (saying Source (refused_line fault))
+  refused : (fault : SourceFault) → Has fault → fault ≢ no_memory → ¬ Plain → IsJudged Has Means Plain target (saying Source (refused_line fault))
   compiled : (system : System) → Means system → IsJudged Has Means Plain target (putting target (matrix_text system) Done (compiled_line system))
 
 pub data IsCompileOutcome (held : Option Named) (source target : List ℕ) : Outcome → Type 0 where
