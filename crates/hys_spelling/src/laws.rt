@@ -1,0 +1,13 @@
+//! What texts are read as numbers, as calls that do nothing.
+
+ghost use Rattle.std.specs.Prelude.{◌≡◌, ◌≤◌, ℕ, List, length, false};
+ghost use Rattle.hys_frac.specs.Read.{judged, reading};
+ghost use Rattle.hys_lex.specs.Pieces.{IsLiteral};
+ghost use Rattle.hys_spelling.specs.Spelling.{written_number, literal_number};
+
+/// The text of a literal token, however long, is read as the number that it writes, or refused as too long
+/// or for a number that doesn't fit.
+pub fn literals_are_read()
+    ensures any { (text : List ℕ) → IsLiteral text → reading text ≡ literal_number text }
+    ensures short { (text : List ℕ) → IsLiteral text → length text ≤ 32 → reading text ≡ judged false (written_number text) }
+{}
