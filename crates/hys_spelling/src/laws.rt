@@ -9,5 +9,5 @@ ghost use Rattle.hys_spelling.specs.Spelling.{written_number, literal_number};
 /// or for a number that doesn't fit.
 pub fn literals_are_read()
     ensures any { (text : List ℕ) → IsLiteral text → reading text ≡ literal_number text }
-    ensures short { (text : List ℕ) → IsLiteral text → length text ≤ 32 → reading text ≡ judged false (written_number text) }
+    ensures short { (t : List ℕ) → IsLiteral t → length t ≤ 32 → reading t ≡ judged false (written_number t) }
 {}
