@@ -25,7 +25,7 @@ some_run : (p : ℕ → Bool) (xs : List ℕ) → 0 < length xs → p (get_or xs
 some_run p [] h e = absurd (omega arith)
 some_run p (x ∷ xs) h e = rw e (omega arith)
 
-no_run : (p : ℕ → Bool) (xs : List ℕ) → p (get_or xs 0 0) ≡ false → prefix_len p xs ≡ 0
+pub no_run : (p : ℕ → Bool) (xs : List ℕ) → p (get_or xs 0 0) ≡ false → prefix_len p xs ≡ 0
 no_run p [] e = refl
 no_run p (x ∷ xs) e = rw e refl
 

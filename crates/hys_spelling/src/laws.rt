@@ -1,7 +1,8 @@
 //! What texts are read as numbers, as calls that do nothing.
 
-ghost use Rattle.std.specs.Prelude.{◌≡◌, ◌≤◌, ℕ, List, length, false};
-ghost use Rattle.hys_frac.specs.Read.{judged, reading};
+ghost use Rattle.std.specs.Prelude.{◌≡◌, ◌≢◌, ◌↔◌, ◌≤◌, ℕ, List, length, false, Err};
+ghost use Rattle.hys_frac.specs.Read.{judged, literal_reading, reading};
+ghost use Rattle.hys_frac.specs.declared.read.FracFault.TheVariants.{Form};
 ghost use Rattle.hys_lex.specs.Pieces.{IsLiteral};
 ghost use Rattle.hys_spelling.specs.Spelling.{written_number, literal_number};
 
@@ -10,4 +11,9 @@ ghost use Rattle.hys_spelling.specs.Spelling.{written_number, literal_number};
 pub fn literals_are_read()
     ensures any { (text : List ℕ) → IsLiteral text → reading text ≡ literal_number text }
     ensures short { (t : List ℕ) → IsLiteral t → length t ≤ 32 → reading t ≡ judged false (written_number t) }
+{}
+
+/// Where no sign and no `/` is read, a text has the form of a number exactly where it is a literal.
+pub fn read_texts_are_literals()
+    ensures { (text : List ℕ) → (literal_reading text ≢ Err Form) ↔ IsLiteral text }
 {}
