@@ -1,5 +1,5 @@
 -- Which texts are read as numbers.
-use Rattle.std.proofs.Common.{◌≡◌, ◌≢◌, ◌↔◌, ◌<◌, ◌≤◌, ◌+◌, ◌*◌, ◌⊎◌, ℕ, zero, suc, List, [], ◌∷◌, ◌++◌, length, get_or, take, drop, Bool, true, false, cond, ◌&&◌, ◌||◌, nat_eq, nat_lt, slice_index, refl, sym, ◌∙◌, ap, ap₂, subst, arith, inl, inr, Ok, Err, Result, pos, add-one, eqb→eq}
+use Rattle.std.proofs.Common.{◌≡◌, ◌≢◌, ◌↔◌, ◌<◌, ◌≤◌, ◌+◌, ◌*◌, ◌⊎◌, ℕ, zero, suc, List, [], ◌∷◌, ◌++◌, length, get_or, take, drop, Bool, true, false, cond, ◌&&◌, ◌||◌, nat_eq, nat_lt, slice_index, refl, sym, ◌∙◌, ap, ap₂, subst, arith, inl, inr, Ok, Err, Result, pos, append-nil}
 use Rattle.std.proofs.lemmas.List.{take_all, get_or_past, get_or_at, take-append-drop, drop_more}
 use Rattle.std.proofs.Math.Seq.{take-append_seam, drop-append-add}
 use Rattle.std.proofs.lemmas.Bool.{cases_Bool, cases_eq, cases_lt}
@@ -13,7 +13,7 @@ use Rattle.std.specs.Str.Parse.{digits_value, digits_value_after}
 use Rattle.std.specs.Float.Numeral.{scan_numeral, has_digits, digits_len}
 use Rattle.hys_number.specs.Number.{Number, make}
 use Rattle.hys_number.specs.Ops.{fits}
-use Rattle.hys_number.proofs.Bools.{lt_true, lt_false, eq_true, eq_false, or_true, all_true, and_both}
+use Rattle.hys_number.proofs.Bools.{lt_true, lt_false, eq_true, eq_false, or_false, all_true, and_both}
 use Rattle.hys_frac.specs.Read.{judged, literal_reading, ratio_reading, unsigned_reading, turned, reading}
 use Rattle.hys_frac.specs.declared.read.FracFault.{FracFault}
 use Rattle.hys_frac.specs.declared.read.FracFault.TheVariants.{Form, Long, Range}
@@ -58,3 +58,192 @@ literal_from (c ∷ cs) h = elim (cases_Bool (has_digits (scan_numeral (c ∷ cs
 
 pub literals_exact : (text : List ℕ) → (literal_reading text ≢ Err Form) ↔ IsLiteral text
 literals_exact text = (literal_from text, λ l e. judged_formed _ _ (sym (literal_alone text l) ∙ e))
+
+-- ---- quotients
+pass_all : (p : ℕ → Bool) (c : ℕ) (cs : List ℕ) → p c ≡ true → AllPass p cs → AllPass p (c ∷ cs)
+pass_all p c cs e h zero d l = e
+pass_all p c cs e h (suc k) d l = h k d (omega arith)
+
+pass_rest : (p : ℕ → Bool) (c : ℕ) (cs : List ℕ) → AllPass p (c ∷ cs) → AllPass p cs
+pass_rest p c cs h k d l = h (suc k) d (omega arith)
+
+pass_first : (p : ℕ → Bool) (c : ℕ) (cs : List ℕ) → AllPass p (c ∷ cs) → p c ≡ true
+pass_first p c cs h = h 0 0 (omega arith)
+
+digit_size : (c : ℕ) → is_digit c ≡ true → digit_value c + 48 ≡ c
+digit_size c h = digit_value_digit c (within c h)
+  where
+    within : (c : ℕ) → is_digit c ≡ true → IsInRange 48 57 c
+    within c h = grind (arith, nat_tests)
+
+zero_digit : (c : ℕ) → is_zero_digit c ≡ true → c ≡ 48
+zero_digit c h = grind (arith, nat_tests)
+
+-- digits are worth 0 exactly where all are 0
+zeros_value : (ds : List ℕ) → AllPass is_zero_digit ds → digits_value 10 ds ≡ 0
+zeros_value [] h = refl
+zeros_value (c ∷ cs) h = ap (λ x. digits_value_after 10 (0 * 10 + digit_value x) cs) (zero_digit c (pass_first is_zero_digit c cs h)) ∙ zeros_value cs (pass_rest is_zero_digit c cs h)
+
+value_zeros : (ds : List ℕ) → AllPass is_digit ds → digits_value 10 ds ≡ 0 → AllPass is_zero_digit ds
+value_zeros [] h e = λ k d l. absurd (omega arith)
+value_zeros (c ∷ cs) h e =
+    let size : digit_value c + 48 ≡ c = digit_size c (pass_first is_digit c cs h) in
+    elim (cases_lt 0 (0 * 10 + digit_value c)) [
+      | inl more ↦ absurd (omega (arith, digits_positive (0 * 10 + digit_value c) cs more, e))
+      | inr none ↦
+          let nothing : 0 * 10 + digit_value c ≡ 0 = omega arith in
+          let is : is_zero_digit c ≡ true = eq_true c 48 (omega arith) in
+          pass_all is_zero_digit c cs is (value_zeros cs (pass_rest is_digit c cs h) (sym (ap (λ x. digits_value_after 10 x cs) nothing) ∙ e))
+    ]
+
+-- digits before a byte that is none
+digits_front : (ds rest : List ℕ) → AllPass is_digit ds → is_digit (get_or rest 0 0) ≡ false → prefix_len is_digit (ds ++ rest) ≡ length ds
+digits_front [] rest h e = no_run is_digit rest e
+digits_front (c ∷ cs) rest h e = ap (λ b. cond b (1 + prefix_len is_digit (cs ++ rest)) 0) (pass_first is_digit c cs h) ∙ one (prefix_len is_digit (cs ++ rest)) (length cs) (digits_front cs rest (pass_rest is_digit c cs h) e)
+  where
+    one : (x y : ℕ) → x ≡ y → 1 + x ≡ suc y
+    one x y e = omega arith
+
+all_digits : (ds : List ℕ) → prefix_len is_digit ds ≡ length ds → AllPass is_digit ds
+all_digits ds e = subst (AllPass is_digit) (ap (λ n. take n ds) e ∙ take_all (length ds) ds (omega arith)) (front_passes is_digit ds)
+
+no_digits_worth : (ds : List ℕ) → 0 < digits_value 10 ds → 0 < length ds
+no_digits_worth [] h = absurd (omega arith)
+no_digits_worth (c ∷ cs) h = omega arith
+
+-- what the reader of quotients asks of the two texts
+Parts : List ℕ → List ℕ → Type 0
+Parts above below = (0 < length above) × (digits_len below ≡ length below) × (0 < digits_value 10 below)
+
+ratio_from : (above below : List ℕ) → ratio_reading above below ≢ Err Form → Parts above below
+unfolding Parts
+ratio_from above below h = elim (cases_lt 0 (length above)) [
+  | inr short ↦ absurd (h (sym (ratio_form above below (inl (lt_false 0 (length above) short)))))
+  | inl some ↦ elim (cases_eq (digits_len below) (length below)) [
+    | inr other ↦ absurd (h (sym (ratio_form above below (inr (inl (eq_false (digits_len below) (length below) other))))))
+    | inl all ↦ elim (cases_lt 0 (digits_value 10 below)) [
+      | inr none ↦ absurd (h (sym (ratio_form above below (inr (inr (lt_false 0 (digits_value 10 below) none))))))
+      | inl more ↦ (some, all, more)
+    ]
+  ]
+]
+
+ratio_formed : (above below : List ℕ) → Parts above below → ratio_reading above below ≢ Err Form
+unfolding Parts ratio_reading
+ratio_formed above below p e =
+    judged_formed (nat_lt 32 (length above) || nat_lt 32 (length below)) (make (pos (digits_value 10 above)) (digits_value 10 below))
+    (sym (ap (λ b. cond b (judged (nat_lt 32 (length above) || nat_lt 32 (length below)) (make (pos (digits_value 10 above)) (digits_value 10 below))) (Err Form)) (all_true _ _ _ (lt_true 0 (length above) p.0) (eq_true (digits_len below) (length below) p.1) (lt_true 0 (digits_value 10 below) p.2)))
+    ∙ e)
+
+quotient_parts : (text : List ℕ) → get_or text (prefix_len is_digit text) 0 ≡ 47 → Parts (take (prefix_len is_digit text) text) (drop (prefix_len is_digit text + 1) text) → IsQuotient text
+unfolding Parts
+quotient_parts text slash p =
+    let w = prefix_len is_digit text in
+    let below = drop (w + 1) text in
+    let digits : AllPass is_digit below = all_digits below p.1 in
+    record {
+      above = take w text;
+      below = below;
+      above_digits = (p.0, front_passes is_digit text);
+      below_digits = (no_digits_worth below p.2, digits);
+      not_zero = λ zeros. omega (arith, zeros_value below zeros, p.2);
+      joined = sym (take-append-drop w text) ∙ ap (λ xs. take w text ++ xs) (drop_more text w 0 (within text slash) ∙ ap (λ b. b ∷ below) slash);
+    }
+  where
+    within : (text : List ℕ) → get_or text (prefix_len is_digit text) 0 ≡ 47 → prefix_len is_digit text < length text
+    within text slash = elim (cases_lt (prefix_len is_digit text) (length text)) [
+      | inl less ↦ less
+      | inr past ↦ let nothing : get_or text (prefix_len is_digit text) 0 ≡ 0 = get_or_past text (prefix_len is_digit text) 0 past in absurd (omega arith)
+    ]
+
+parts_of : (text : List ℕ) → (q : IsQuotient text) → Parts q.above q.below
+unfolding Parts
+parts_of text q = (
+  q.above_digits.0,
+  ap digits_len (sym (append-nil q.below)) ∙ digits_front q.below [] q.below_digits.1 refl,
+  elim (cases_lt 0 (digits_value 10 q.below)) [
+    | inl more ↦ more
+    | inr none ↦ absurd (q.not_zero (value_zeros q.below q.below_digits.1 (omega arith)))
+  ],
+)
+
+quotient_split : (above below : List ℕ) → AllPass is_digit above → unsigned_reading (above ++ (47 ∷ below)) ≡ ratio_reading above below
+unfolding unsigned_reading
+quotient_split above below h =
+    let t = above ++ (47 ∷ below) in
+    ap (λ n. cond (nat_eq (slice_index t n) 47) (ratio_reading (take n t) (drop (n + 1) t)) (literal_reading t)) (digits_front above (47 ∷ below) h refl)
+    ∙ ap (λ b. cond b (ratio_reading (take (length above) t) (drop (length above + 1) t)) (literal_reading t)) (eq_true (slice_index t (length above)) 47 (get_or_at above 47 below 0 (length above) refl))
+    ∙ ap₂ ratio_reading (take-append_seam above (47 ∷ below)) (drop-append-add above (47 ∷ below) 1)
+
+quotient_read : (text : List ℕ) → (q : IsQuotient text) → unsigned_reading text ≡ ratio_reading q.above q.below
+quotient_read text q = ap unsigned_reading q.joined ∙ quotient_split q.above q.below q.above_digits.1
+
+-- ---- without a sign
+unsigned_from : (text : List ℕ) → unsigned_reading text ≢ Err Form → IsLiteral text ⊎ IsQuotient text
+unfolding unsigned_reading
+unsigned_from text h =
+    let w = prefix_len is_digit text in
+    let above = take w text in
+    let below = drop (w + 1) text in
+    elim (cases_eq (get_or text w 0) 47) [
+      | inl slash ↦ inr (quotient_parts text slash (ratio_from above below (λ e. h (ap (λ b. cond b (ratio_reading above below) (literal_reading text)) (eq_true (get_or text w 0) 47 slash) ∙ e))))
+      | inr other ↦ inl (literal_from text (λ e. h (ap (λ b. cond b (ratio_reading above below) (literal_reading text)) (eq_false (get_or text w 0) 47 other) ∙ e)))
+    ]
+
+unsigned_formed : (text : List ℕ) → IsLiteral text ⊎ IsQuotient text → unsigned_reading text ≢ Err Form
+unsigned_formed text (inl l) e = judged_formed _ _ (sym (literal_unsigned text l) ∙ e)
+unsigned_formed text (inr q) e = ratio_formed q.above q.below (parts_of text q) (sym (quotient_read text q) ∙ e)
+
+begins : (text : List ℕ) → IsLiteral text ⊎ IsQuotient text → begins_literal (get_or text 0 0) ≡ true
+begins text (inl l) = literal_begins text l
+begins text (inr q) = ap (λ xs. begins_literal (get_or xs 0 0)) q.joined ∙ first q.above q.below q.above_digits
+  where
+    digit_begins : (b : ℕ) → is_digit b ≡ true → begins_literal b ≡ true
+    digit_begins b h = rw h
+
+    first : (above below : List ℕ) → IsDigits above → begins_literal (get_or (above ++ (47 ∷ below)) 0 0) ≡ true
+    first [] below d = absurd (omega (arith, d.0))
+    first (c ∷ cs) below d = digit_begins c (pass_first is_digit c cs d.1)
+
+-- ---- signs
+turned_formed : (b : Bool) (r : Result Number FracFault) → r ≢ Err Form → turned b r ≢ Err Form
+turned_formed true (Ok a) h e = absurd (cc)
+turned_formed true (Err f) h e = h e
+turned_formed false r h e = h e
+
+-- a text that begins with a sign
+signed_reading : (c : ℕ) (cs : List ℕ) (b : Bool) → nat_eq c 45 ≡ b → b || nat_eq c 43 ≡ true → reading (c ∷ cs) ≡ turned b (unsigned_reading cs)
+unfolding reading
+signed_reading c cs b e h = ap₂ (λ (x y : Bool). turned x (unsigned_reading (cond y cs (c ∷ cs)))) e (ap (λ x. x || nat_eq c 43) e ∙ h)
+
+plain_reading : (c : ℕ) (cs : List ℕ) → nat_eq c 45 ≡ false → nat_eq c 43 ≡ false → reading (c ∷ cs) ≡ unsigned_reading (c ∷ cs)
+unfolding reading
+plain_reading c cs e h = ap₂ (λ (x y : Bool). turned x (unsigned_reading (cond y cs (c ∷ cs)))) e (or_false _ _ e h)
+
+number_from : (text : List ℕ) → reading text ≢ Err Form → IsNumberText text
+unfolding reading
+number_from [] h = record { sign = []; rest = []; signed = inl refl; number = unsigned_from [] h; joined = refl }
+number_from (c ∷ cs) h = elim (cases_eq c 45) [
+  | inl e ↦
+      let is : reading (c ∷ cs) ≡ turned true (unsigned_reading cs) = signed_reading c cs true (eq_true c 45 e) refl in
+      record { sign = 45 ∷ []; rest = cs; signed = inr (inr refl); number = unsigned_from cs (λ f. h (is ∙ ap (turned true) f)); joined = ap (λ x. x ∷ cs) e }
+  | inr no_minus ↦ elim (cases_eq c 43) [
+    | inl e ↦
+        let is : reading (c ∷ cs) ≡ unsigned_reading cs = signed_reading c cs false (eq_false c 45 no_minus) (eq_true c 43 e) in
+        record { sign = 43 ∷ []; rest = cs; signed = inr (inl refl); number = unsigned_from cs (λ f. h (is ∙ f)); joined = ap (λ x. x ∷ cs) e }
+    | inr no_plus ↦
+        let is : reading (c ∷ cs) ≡ unsigned_reading (c ∷ cs) = plain_reading c cs (eq_false c 45 no_minus) (eq_false c 43 no_plus) in
+        record { sign = []; rest = c ∷ cs; signed = inl refl; number = unsigned_from (c ∷ cs) (λ f. h (is ∙ f)); joined = refl }
+  ]
+]
+
+number_formed : (text : List ℕ) → IsNumberText text → reading text ≢ Err Form
+number_formed text n e = formed n.sign n.rest n.signed n.number (sym (ap reading n.joined) ∙ e)
+  where
+    formed : (sign rest : List ℕ) → (sign ≡ []) ⊎ (sign ≡ 43 ∷ []) ⊎ (sign ≡ 45 ∷ []) → IsLiteral rest ⊎ IsQuotient rest → reading (sign ++ rest) ≢ Err Form
+    formed sign rest (inl s) u e = unsigned_formed rest u (sym (signless rest (begins rest u)) ∙ ap (λ xs. reading (xs ++ rest)) (sym s) ∙ e)
+    formed sign rest (inr (inl s)) u e = unsigned_formed rest u (sym (signed_reading 43 rest false refl refl) ∙ ap (λ xs. reading (xs ++ rest)) (sym s) ∙ e)
+    formed sign rest (inr (inr s)) u e = turned_formed true (unsigned_reading rest) (unsigned_formed rest u) (sym (signed_reading 45 rest true refl refl) ∙ ap (λ xs. reading (xs ++ rest)) (sym s) ∙ e)
+
+pub number_texts : (text : List ℕ) → (reading text ≢ Err Form) ↔ IsNumberText text
+number_texts text = (number_from text, number_formed text)

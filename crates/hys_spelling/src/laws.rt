@@ -4,7 +4,7 @@ ghost use Rattle.std.specs.Prelude.{◌≡◌, ◌≢◌, ◌↔◌, ◌≤◌, 
 ghost use Rattle.hys_frac.specs.Read.{judged, literal_reading, reading};
 ghost use Rattle.hys_frac.specs.declared.read.FracFault.TheVariants.{Form};
 ghost use Rattle.hys_lex.specs.Pieces.{IsLiteral};
-ghost use Rattle.hys_spelling.specs.Spelling.{written_number, literal_number};
+ghost use Rattle.hys_spelling.specs.Spelling.{written_number, literal_number, IsNumberText};
 
 /// The text of a literal token, however long, is read as the number that it writes, or refused as too long
 /// or for a number that doesn't fit.
@@ -16,4 +16,10 @@ pub fn literals_are_read()
 /// Where no sign and no `/` is read, a text has the form of a number exactly where it is a literal.
 pub fn read_texts_are_literals()
     ensures { (text : List ℕ) → (literal_reading text ≢ Err Form) ↔ IsLiteral text }
+{}
+
+/// A text has the form of a number exactly where it is at most one sign and then a literal, or digits, `/`
+/// and digits that aren't all 0.
+pub fn number_texts()
+    ensures { (text : List ℕ) → (reading text ≢ Err Form) ↔ IsNumberText text }
 {}
