@@ -2,6 +2,8 @@
 use Rattle.std.proofs.Common.{◌≡◌, ◌<◌, ◌+◌, ◌-◌, ℕ, List, [], ◌∷◌, length, get_or, take, drop, Bool, true, false, cond, ◌||◌, nat_eq, nat_lt, refl, sym, ◌∙◌, ap, subst, arith, inl, inr, length-drop, get_or-drop, drop-drop, zero-add, add-zero}
 use Rattle.std.proofs.lemmas.List.{get_or_past, length-take-le}
 use Rattle.std.proofs.lemmas.Bool.{cases_lt, cases_Bool, cases_eq}
+use Rattle.std.proofs.lemmas.Bool.Decides.{nat_tests}
+use Rattle.std.proofs.Math.Bool.{or_comm}
 use Rattle.std.proofs.lemmas.List.Sums.{prefix_len-le-length}
 use Rattle.std.specs.List.{prefix_len}
 use Rattle.std.specs.Float.Numeral.{scan_numeral, has_digits, has_exponent, exponent_start, digits_end}
@@ -29,18 +31,15 @@ pub no_run : (p : ℕ → Bool) (xs : List ℕ) → p (get_or xs 0 0) ≡ false 
 no_run p [] e = refl
 no_run p (x ∷ xs) e = rw e refl
 
-other_order : (a b : Bool) → (a || b) ≡ (b || a)
-other_order true true = refl
-other_order true false = refl
-other_order false true = refl
-other_order false false = refl
-
--- a byte that is a digit stands within the text
-inside : (text : List ℕ) (i : ℕ) → is_digit (get_or text i 0) ≡ true → i < length text
-inside text i e = elim (cases_lt i (length text)) [
+-- a byte other than 0 stands within the text
+pub within : (text : List ℕ) (at : ℕ) → 0 < get_or text at 0 → at < length text
+within text at some = elim (cases_lt at (length text)) [
   | inl less ↦ less
-  | inr past ↦ let nothing : get_or text i 0 ≡ 0 = get_or_past text i 0 past in let low : is_digit 0 ≡ true = subst (λ b. is_digit b ≡ true) nothing e in absurd (cc)
+  | inr past ↦ let nothing : get_or text at 0 ≡ 0 = get_or_past text at 0 past in absurd (omega arith)
 ]
+
+digit_some : (b : ℕ) → is_digit b ≡ true → 0 < b
+digit_some b h = grind (arith, nat_tests)
 
 marked_end : (text : List ℕ) (at front : ℕ) → is_exponent_mark (get_or text at 0) ≡ true → exponent_start text at ≡ at + front → PowerStart (drop at text) front → ExponentEnd text at
 unfolding numeral_end
@@ -52,7 +51,7 @@ marked_end text at front mark start power =
     let head : get_or (drop front rest) 0 0 ≡ get_or text (at + front) 0 = ap (λ xs. get_or xs 0 0) same ∙ get_or-drop (at + front) text 0 0 ∙ ap (λ i. get_or text i 0) (add-zero (at + front)) in
     elim (cases_Bool (is_digit (get_or text (at + front) 0))) [
       | inl yes_digit ↦
-          let within : at + front < length text = inside text (at + front) yes_digit in
+          let here : at + front < length text = within text (at + front) (digit_some (get_or text (at + front) 0) yes_digit) in
           let digits = prefix_len is_digit (drop front rest) in
           let some : 0 < digits = some_run is_digit (drop front rest) (omega (arith, length-drop front rest, length-drop at text)) (ap is_digit head ∙ yes_digit) in
           record {
@@ -80,10 +79,10 @@ exponent_end text at =
       | inl mark ↦ elim (cases_Bool (is_plus_or_minus (get_or text (at + 1) 0))) [
         | inl sign ↦
             let here : is_plus_or_minus (get_or rest 1 0) ≡ true = ap is_plus_or_minus second ∙ sign in
-            marked_end text at 2 mark (rw (other_order (nat_eq (get_or text (at + 1) 0) 45) (nat_eq (get_or text (at + 1) 0) 43), sign) refl) (record { signed = λ e. refl; plain = λ e. absurd (cc) })
+            marked_end text at 2 mark (rw (or_comm (nat_eq (get_or text (at + 1) 0) 45) (nat_eq (get_or text (at + 1) 0) 43), sign) refl) (record { signed = λ e. refl; plain = λ e. absurd (cc) })
         | inr plain ↦
             let here : is_plus_or_minus (get_or rest 1 0) ≡ false = ap is_plus_or_minus second ∙ plain in
-            marked_end text at 1 mark (rw (other_order (nat_eq (get_or text (at + 1) 0) 45) (nat_eq (get_or text (at + 1) 0) 43), plain) refl) (record { signed = λ e. absurd (cc); plain = λ e. refl })
+            marked_end text at 1 mark (rw (or_comm (nat_eq (get_or text (at + 1) 0) 45) (nat_eq (get_or text (at + 1) 0) 43), plain) refl) (record { signed = λ e. absurd (cc); plain = λ e. refl })
       ]
       | inr other ↦ record { size = 0; ends = rw other (sym (add-zero at)); longest = exponent_none rest (ap is_exponent_mark first ∙ other) }
     ]
@@ -141,19 +140,13 @@ longest_scan text =
     let n = prefix_len is_digit (drop (w + 1) text) in
     elim (cases_eq (get_or text w 0) 46) [
       | inl point ↦ elim (cases_lt 0 (w + n)) [
-        | inl some ↦ joined_scan text (w + n) (w + 1 + n) (pointed_scan text point) some (omega arith) (mantissa_pointed text w n refl (before text point) point refl some)
+        | inl some ↦ joined_scan text (w + n) (w + 1 + n) (pointed_scan text point) some (omega arith) (mantissa_pointed text w n refl (within text w (omega arith)) point refl some)
         | inr none ↦ empty_scan text (w + n) (w + 1 + n) (pointed_scan text point) (omega arith) (mantissa_none text (omega arith) (omega arith))
       ]
       | inr other ↦ elim (cases_lt 0 w) [
         | inl some ↦ joined_scan text w w (plain_scan text other) some some (mantissa_whole text other)
         | inr none ↦ let zero_is : w ≡ 0 = omega arith in empty_scan text w w (plain_scan text other) zero_is (subst (IsLongest IsMantissa text) zero_is (mantissa_whole text other))
       ]
-    ]
-  where
-    before : (text : List ℕ) → get_or text (prefix_len is_digit text) 0 ≡ 46 → prefix_len is_digit text < length text
-    before text point = elim (cases_lt (prefix_len is_digit text) (length text)) [
-      | inl less ↦ less
-      | inr past ↦ let nothing : get_or text (prefix_len is_digit text) 0 ≡ 0 = get_or_past text (prefix_len is_digit text) 0 past in absurd (omega arith)
     ]
 
 -- a text whose first byte is neither a digit nor the point has no literal at its front

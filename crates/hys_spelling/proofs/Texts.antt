@@ -5,6 +5,7 @@ use Rattle.std.proofs.Math.Seq.{take-append_seam, drop-append-add}
 use Rattle.std.proofs.lemmas.Bool.{cases_Bool, cases_eq, cases_lt}
 use Rattle.std.proofs.lemmas.Bool.Decides.{nat_tests}
 use Rattle.std.proofs.lemmas.List.Sums.{prefix_len-le-length}
+use Rattle.std.proofs.lemmas.List.Elements.{All-head, All-tail, All-cons}
 use Rattle.std.proofs.lemmas.Str.{digit_value_digit}
 use Rattle.std.specs.Char.{digit_value}
 use Rattle.std.specs.Int.{IsInRange}
@@ -23,7 +24,7 @@ use Rattle.hys_lex.specs.Bytes.{is_digit, begins_literal}
 use Rattle.hys_lex.specs.Pieces.{IsLongest, IsDigits, IsLiteral}
 use Rattle.hys_lex.proofs.Runs.{front_passes}
 use Rattle.hys_spelling.specs.Spelling.{is_zero_digit, IsQuotient, IsNumberText, literal_number}
-use Rattle.hys_spelling.proofs.Scanned.{scanned_len, longest_scan, no_run}
+use Rattle.hys_spelling.proofs.Scanned.{scanned_len, longest_scan, no_run, within}
 use Rattle.hys_spelling.proofs.Spelled.{literal_alone, literal_unsigned, literal_begins, signless}
 
 -- a judged number isn't refused for its form
@@ -60,15 +61,11 @@ pub literals_exact : (text : List ℕ) → (literal_reading text ≢ Err Form) �
 literals_exact text = (literal_from text, λ l e. judged_formed _ _ (sym (literal_alone text l) ∙ e))
 
 -- ---- quotients
-pass_all : (p : ℕ → Bool) (c : ℕ) (cs : List ℕ) → p c ≡ true → AllPass p cs → AllPass p (c ∷ cs)
-pass_all p c cs e h zero d l = e
-pass_all p c cs e h (suc k) d l = h k d (omega arith)
+abbrev Digit : ℕ → Type 0
+Digit b = is_digit b ≡ true
 
-pass_rest : (p : ℕ → Bool) (c : ℕ) (cs : List ℕ) → AllPass p (c ∷ cs) → AllPass p cs
-pass_rest p c cs h k d l = h (suc k) d (omega arith)
-
-pass_first : (p : ℕ → Bool) (c : ℕ) (cs : List ℕ) → AllPass p (c ∷ cs) → p c ≡ true
-pass_first p c cs h = h 0 0 (omega arith)
+abbrev Zero : ℕ → Type 0
+Zero b = is_zero_digit b ≡ true
 
 digit_size : (c : ℕ) → is_digit c ≡ true → digit_value c + 48 ≡ c
 digit_size c h = digit_value_digit c (within c h)
@@ -82,24 +79,24 @@ zero_digit c h = grind (arith, nat_tests)
 -- digits are worth 0 exactly where all are 0
 zeros_value : (ds : List ℕ) → AllPass is_zero_digit ds → digits_value 10 ds ≡ 0
 zeros_value [] h = refl
-zeros_value (c ∷ cs) h = ap (λ x. digits_value_after 10 (0 * 10 + digit_value x) cs) (zero_digit c (pass_first is_zero_digit c cs h)) ∙ zeros_value cs (pass_rest is_zero_digit c cs h)
+zeros_value (c ∷ cs) h = ap (λ x. digits_value_after 10 (0 * 10 + digit_value x) cs) (zero_digit c (All-head Zero c cs h)) ∙ zeros_value cs (All-tail Zero c cs h)
 
 value_zeros : (ds : List ℕ) → AllPass is_digit ds → digits_value 10 ds ≡ 0 → AllPass is_zero_digit ds
 value_zeros [] h e = λ k d l. absurd (omega arith)
 value_zeros (c ∷ cs) h e =
-    let size : digit_value c + 48 ≡ c = digit_size c (pass_first is_digit c cs h) in
+    let size : digit_value c + 48 ≡ c = digit_size c (All-head Digit c cs h) in
     elim (cases_lt 0 (0 * 10 + digit_value c)) [
       | inl more ↦ absurd (omega (arith, digits_positive (0 * 10 + digit_value c) cs more, e))
       | inr none ↦
           let nothing : 0 * 10 + digit_value c ≡ 0 = omega arith in
           let is : is_zero_digit c ≡ true = eq_true c 48 (omega arith) in
-          pass_all is_zero_digit c cs is (value_zeros cs (pass_rest is_digit c cs h) (sym (ap (λ x. digits_value_after 10 x cs) nothing) ∙ e))
+          All-cons Zero c cs is (value_zeros cs (All-tail Digit c cs h) (sym (ap (λ x. digits_value_after 10 x cs) nothing) ∙ e))
     ]
 
 -- digits before a byte that is none
 digits_front : (ds rest : List ℕ) → AllPass is_digit ds → is_digit (get_or rest 0 0) ≡ false → prefix_len is_digit (ds ++ rest) ≡ length ds
 digits_front [] rest h e = no_run is_digit rest e
-digits_front (c ∷ cs) rest h e = ap (λ b. cond b (1 + prefix_len is_digit (cs ++ rest)) 0) (pass_first is_digit c cs h) ∙ one (prefix_len is_digit (cs ++ rest)) (length cs) (digits_front cs rest (pass_rest is_digit c cs h) e)
+digits_front (c ∷ cs) rest h e = ap (λ b. cond b (1 + prefix_len is_digit (cs ++ rest)) 0) (All-head Digit c cs h) ∙ one (prefix_len is_digit (cs ++ rest)) (length cs) (digits_front cs rest (All-tail Digit c cs h) e)
   where
     one : (x y : ℕ) → x ≡ y → 1 + x ≡ suc y
     one x y e = omega arith
@@ -147,14 +144,8 @@ quotient_parts text slash p =
       above_digits = (p.0, front_passes is_digit text);
       below_digits = (no_digits_worth below p.2, digits);
       not_zero = λ zeros. omega (arith, zeros_value below zeros, p.2);
-      joined = sym (take-append-drop w text) ∙ ap (λ xs. take w text ++ xs) (drop_more text w 0 (within text slash) ∙ ap (λ b. b ∷ below) slash);
+      joined = sym (take-append-drop w text) ∙ ap (λ xs. take w text ++ xs) (drop_more text w 0 (within text w (omega arith)) ∙ ap (λ b. b ∷ below) slash);
     }
-  where
-    within : (text : List ℕ) → get_or text (prefix_len is_digit text) 0 ≡ 47 → prefix_len is_digit text < length text
-    within text slash = elim (cases_lt (prefix_len is_digit text) (length text)) [
-      | inl less ↦ less
-      | inr past ↦ let nothing : get_or text (prefix_len is_digit text) 0 ≡ 0 = get_or_past text (prefix_len is_digit text) 0 past in absurd (omega arith)
-    ]
 
 parts_of : (text : List ℕ) → (q : IsQuotient text) → Parts q.above q.below
 unfolding Parts
@@ -203,7 +194,7 @@ begins text (inr q) = ap (λ xs. begins_literal (get_or xs 0 0)) q.joined ∙ fi
 
     first : (above below : List ℕ) → IsDigits above → begins_literal (get_or (above ++ (47 ∷ below)) 0 0) ≡ true
     first [] below d = absurd (omega (arith, d.0))
-    first (c ∷ cs) below d = digit_begins c (pass_first is_digit c cs d.1)
+    first (c ∷ cs) below d = digit_begins c (All-head Digit c cs d.1)
 
 -- ---- signs
 turned_formed : (b : Bool) (r : Result Number FracFault) → r ≢ Err Form → turned b r ≢ Err Form
