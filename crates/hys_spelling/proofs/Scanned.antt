@@ -1,5 +1,5 @@
 -- The scan of a numeral goes as far as the longest literal at the front of a text, where it has a digit.
-use Rattle.std.proofs.Common.{◌≡◌, ◌<◌, ◌+◌, ◌-◌, ℕ, List, [], ◌∷◌, length, get_or, take, drop, Bool, true, false, cond, ◌||◌, nat_eq, nat_lt, refl, sym, ◌∙◌, ap, subst, arith, inl, inr, length-drop, get_or-drop, drop-drop, zero-add, add-zero}
+use Rattle.std.proofs.Common.{◌≡◌, ◌<◌, ◌+◌, ◌-◌, ℕ, List, [], ◌∷◌, length, get_or, take, drop, Bool, true, false, cond, nat_eq, nat_lt, refl, sym, ◌∙◌, ap, subst, arith, inl, inr, length-drop, get_or-drop, drop-drop, zero-add, add-zero}
 use Rattle.std.proofs.lemmas.List.{get_or_past, length-take-le}
 use Rattle.std.proofs.lemmas.Bool.{cases_lt, cases_Bool, cases_eq}
 use Rattle.std.proofs.lemmas.Bool.Decides.{nat_tests}

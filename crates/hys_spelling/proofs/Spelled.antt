@@ -1,5 +1,5 @@
 -- What a literal is read as.
-use Rattle.std.proofs.Common.{◌≡◌, ◌<◌, ◌≤◌, ◌+◌, ◌⊎◌, ℕ, List, [], ◌∷◌, length, get_or, take, drop, Bool, true, false, cond, ◌&&◌, ◌||◌, nat_eq, nat_lt, slice_index, refl, sym, ◌∙◌, ap, ap₂, subst, arith, inl, inr, Err, length-append, true≢false}
+use Rattle.std.proofs.Common.{◌≡◌, ◌<◌, ◌≤◌, ◌+◌, ℕ, List, [], ◌∷◌, length, get_or, take, drop, Bool, true, false, cond, ◌&&◌, nat_eq, slice_index, refl, sym, ◌∙◌, ap, ap₂, subst, arith, inl, inr, Err, length-append, true≢false}
 use Rattle.std.proofs.lemmas.List.{take_all}
 use Rattle.std.proofs.lemmas.Bool.{cases_Bool}
 use Rattle.std.proofs.lemmas.Bool.Decides.{nat_tests}

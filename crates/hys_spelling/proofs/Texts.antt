@@ -1,19 +1,20 @@
 -- Which texts are read as numbers.
-use Rattle.std.proofs.Common.{◌≡◌, ◌≢◌, ◌↔◌, ◌<◌, ◌≤◌, ◌+◌, ◌*◌, ◌⊎◌, ℕ, zero, suc, List, [], ◌∷◌, ◌++◌, length, get_or, take, drop, Bool, true, false, cond, ◌&&◌, ◌||◌, nat_eq, nat_lt, slice_index, refl, sym, ◌∙◌, ap, ap₂, subst, arith, inl, inr, Ok, Err, Result, pos, append-nil}
-use Rattle.std.proofs.lemmas.List.{take_all, get_or_past, get_or_at, take-append-drop, drop_more}
+use Rattle.std.proofs.Common.{◌≡◌, ◌≢◌, ◌↔◌, ◌<◌, ◌+◌, ◌*◌, ◌⊎◌, ℕ, suc, List, [], ◌∷◌, ◌++◌, length, get_or, take, drop, Bool, true, false, cond, ◌&&◌, ◌||◌, nat_eq, slice_index, refl, sym, ◌∙◌, ap, ap₂, subst, arith, inl, inr, Ok, Err, Result, append-nil, not, true≢false, All}
+use Rattle.std.proofs.lemmas.List.{take_all, get_or_at, take-append-drop, drop_more}
 use Rattle.std.proofs.Math.Seq.{take-append_seam, drop-append-add}
 use Rattle.std.proofs.lemmas.Bool.{cases_Bool, cases_eq, cases_lt}
 use Rattle.std.proofs.lemmas.Bool.Decides.{nat_tests}
-use Rattle.std.proofs.lemmas.List.Sums.{prefix_len-le-length}
+use Rattle.std.proofs.lemmas.List.Sums.{AllPass-from_list_all}
 use Rattle.std.proofs.lemmas.List.Elements.{All-head, All-tail, All-cons}
 use Rattle.std.proofs.lemmas.Str.{digit_value_digit}
 use Rattle.std.specs.Char.{digit_value}
 use Rattle.std.specs.Int.{IsInRange}
-use Rattle.std.specs.List.{AllPass, prefix_len}
+use Rattle.std.specs.List.{AllPass, prefix_len, list_all}
 use Rattle.std.specs.Str.Parse.{digits_value, digits_value_after}
 use Rattle.std.specs.Float.Numeral.{scan_numeral, has_digits, digits_len}
 use Rattle.hys_number.specs.Number.{Number, make}
-use Rattle.hys_number.specs.Ops.{fits}
+use Rattle.hys_number.specs.Ops.{fits, neg}
+use Rattle.hys_number.specs.Gcd.{gcd}
 use Rattle.hys_number.proofs.Bools.{lt_true, lt_false, eq_true, eq_false, or_false, all_true, and_both}
 use Rattle.hys_frac.specs.Read.{judged, literal_reading, ratio_reading, unsigned_reading, turned, reading}
 use Rattle.hys_frac.specs.declared.read.FracFault.{FracFault}
@@ -23,7 +24,7 @@ use Rattle.hys_frac.proofs.Readings.{ratio_form}
 use Rattle.hys_lex.specs.Bytes.{is_digit, begins_literal}
 use Rattle.hys_lex.specs.Pieces.{IsLongest, IsDigits, IsLiteral}
 use Rattle.hys_lex.proofs.Runs.{front_passes}
-use Rattle.hys_spelling.specs.Spelling.{is_zero_digit, IsQuotient, IsNumberText, literal_number}
+use Rattle.hys_spelling.specs.Spelling.{is_zero_digit, IsQuotient, IsNumberText, literal_number, quotient_number, unsigned_number, text_number, some_number_texts, other_texts}
 use Rattle.hys_spelling.proofs.Scanned.{scanned_len, longest_scan, no_run, within}
 use Rattle.hys_spelling.proofs.Spelled.{literal_alone, literal_unsigned, literal_begins, signless}
 
@@ -125,12 +126,9 @@ ratio_from above below h = elim (cases_lt 0 (length above)) [
   ]
 ]
 
-ratio_formed : (above below : List ℕ) → Parts above below → ratio_reading above below ≢ Err Form
+ratio_judged : (above below : List ℕ) → Parts above below → ratio_reading above below ≡ quotient_number above below
 unfolding Parts ratio_reading
-ratio_formed above below p e =
-    judged_formed (nat_lt 32 (length above) || nat_lt 32 (length below)) (make (pos (digits_value 10 above)) (digits_value 10 below))
-    (sym (ap (λ b. cond b (judged (nat_lt 32 (length above) || nat_lt 32 (length below)) (make (pos (digits_value 10 above)) (digits_value 10 below))) (Err Form)) (all_true _ _ _ (lt_true 0 (length above) p.0) (eq_true (digits_len below) (length below) p.1) (lt_true 0 (digits_value 10 below) p.2)))
-    ∙ e)
+ratio_judged above below p = ap (λ b. cond b (quotient_number above below) (Err Form)) (all_true _ _ _ (lt_true 0 (length above) p.0) (eq_true (digits_len below) (length below) p.1) (lt_true 0 (digits_value 10 below) p.2))
 
 quotient_parts : (text : List ℕ) → get_or text (prefix_len is_digit text) 0 ≡ 47 → Parts (take (prefix_len is_digit text) text) (drop (prefix_len is_digit text + 1) text) → IsQuotient text
 unfolding Parts
@@ -181,9 +179,13 @@ unsigned_from text h =
       | inr other ↦ inl (literal_from text (λ e. h (ap (λ b. cond b (ratio_reading above below) (literal_reading text)) (eq_false (get_or text w 0) 47 other) ∙ e)))
     ]
 
-unsigned_formed : (text : List ℕ) → IsLiteral text ⊎ IsQuotient text → unsigned_reading text ≢ Err Form
-unsigned_formed text (inl l) e = judged_formed _ _ (sym (literal_unsigned text l) ∙ e)
-unsigned_formed text (inr q) e = ratio_formed q.above q.below (parts_of text q) (sym (quotient_read text q) ∙ e)
+unsigned_valued : (text : List ℕ) → (u : IsLiteral text ⊎ IsQuotient text) → unsigned_reading text ≡ unsigned_number text u
+unsigned_valued text (inl l) = literal_unsigned text l
+unsigned_valued text (inr q) = quotient_read text q ∙ ratio_judged q.above q.below (parts_of text q)
+
+unsigned_formed : (text : List ℕ) → (u : IsLiteral text ⊎ IsQuotient text) → unsigned_number text u ≢ Err Form
+unsigned_formed text (inl l) e = judged_formed _ _ e
+unsigned_formed text (inr q) e = judged_formed _ _ e
 
 begins : (text : List ℕ) → IsLiteral text ⊎ IsQuotient text → begins_literal (get_or text 0 0) ≡ true
 begins text (inl l) = literal_begins text l
@@ -228,13 +230,55 @@ number_from (c ∷ cs) h = elim (cases_eq c 45) [
   ]
 ]
 
-number_formed : (text : List ℕ) → IsNumberText text → reading text ≢ Err Form
-number_formed text n e = formed n.sign n.rest n.signed n.number (sym (ap reading n.joined) ∙ e)
+pub number_valued : (text : List ℕ) → (n : IsNumberText text) → reading text ≡ text_number text n
+number_valued text n = ap reading n.joined ∙ valued n.sign n.rest n.signed n.number
   where
-    formed : (sign rest : List ℕ) → (sign ≡ []) ⊎ (sign ≡ 43 ∷ []) ⊎ (sign ≡ 45 ∷ []) → IsLiteral rest ⊎ IsQuotient rest → reading (sign ++ rest) ≢ Err Form
-    formed sign rest (inl s) u e = unsigned_formed rest u (sym (signless rest (begins rest u)) ∙ ap (λ xs. reading (xs ++ rest)) (sym s) ∙ e)
-    formed sign rest (inr (inl s)) u e = unsigned_formed rest u (sym (signed_reading 43 rest false refl refl) ∙ ap (λ xs. reading (xs ++ rest)) (sym s) ∙ e)
-    formed sign rest (inr (inr s)) u e = turned_formed true (unsigned_reading rest) (unsigned_formed rest u) (sym (signed_reading 45 rest true refl refl) ∙ ap (λ xs. reading (xs ++ rest)) (sym s) ∙ e)
+    valued : (sign rest : List ℕ) → (sign ≡ []) ⊎ (sign ≡ 43 ∷ []) ⊎ (sign ≡ 45 ∷ []) → (u : IsLiteral rest ⊎ IsQuotient rest) → reading (sign ++ rest) ≡ turned (nat_eq (slice_index sign 0) 45) (unsigned_number rest u)
+    valued sign rest which u = elim which [
+      | inl s ↦ rw s (signless rest (begins rest u) ∙ unsigned_valued rest u)
+      | inr t ↦ elim t [
+        | inl s ↦ rw s (signed_reading 43 rest false refl refl ∙ unsigned_valued rest u)
+        | inr s ↦ rw s (signed_reading 45 rest true refl refl ∙ ap (turned true) (unsigned_valued rest u))
+      ]
+    ]
+
+number_formed : (text : List ℕ) → IsNumberText text → reading text ≢ Err Form
+number_formed text n e = turned_formed (nat_eq (slice_index n.sign 0) 45) (unsigned_number n.rest n.number) (unsigned_formed n.rest n.number) (sym (number_valued text n) ∙ e)
 
 pub number_texts : (text : List ℕ) → (reading text ≢ Err Form) ↔ IsNumberText text
 number_texts text = (number_from text, number_formed text)
+
+-- ---- examples
+has_form : Result Number FracFault → Bool
+has_form (Ok a) = true
+has_form (Err Form) = false
+has_form (Err Long) = true
+has_form (Err Range) = true
+
+is_formed : List ℕ → Bool
+is_formed text = has_form (reading text)
+
+is_other : List ℕ → Bool
+is_other text = not (is_formed text)
+
+formed_texts : list_all is_formed some_number_texts ≡ true
+unfolding is_formed has_form reading unsigned_reading ratio_reading literal_reading scan_numeral fits make gcd neg
+formed_texts = refl
+
+unformed_texts : list_all is_other other_texts ≡ true
+unfolding is_other is_formed has_form reading unsigned_reading ratio_reading literal_reading scan_numeral fits make gcd neg
+unformed_texts = refl
+
+pub are_number_texts : All IsNumberText some_number_texts
+unfolding is_formed has_form
+are_number_texts k d l = number_from _ (λ e. true≢false (sym (AllPass-from_list_all is_formed some_number_texts formed_texts k d l) ∙ ap has_form e))
+
+pub are_none : All (λ t. IsNumberText t → ⊥) other_texts
+unfolding is_other is_formed has_form
+are_none k d l n = number_formed _ n (form_only _ (AllPass-from_list_all is_other other_texts unformed_texts k d l))
+  where
+    form_only : (r : Result Number FracFault) → not (has_form r) ≡ true → r ≡ Err Form
+    form_only (Ok a) h = absurd (cc)
+    form_only (Err Form) h = refl
+    form_only (Err Long) h = absurd (cc)
+    form_only (Err Range) h = absurd (cc)
