@@ -1,6 +1,6 @@
 -- The texts that write a number, by the lexer's literals.
 use Rattle.std.specs.Prelude.{◌≡◌, ◌⊎◌, ◌||◌, ◌==◌, List, [], ◌∷◌, ◌++◌, ℕ, Bool, length, nat_eq, nat_lt, slice_index, Result, pos, codes}
-use mathlib.Core.Logic.{inl, inr}
+use Rattle.std.proofs.Common.{inl, inr}
 use Rattle.std.specs.List.{AllPass}
 use Rattle.std.specs.Str.Parse.{digits_value}
 use Rattle.std.specs.Float.Numeral.{scan_numeral}
