@@ -7,3 +7,4 @@ pub mod Declarations
 pub mod Checks
 pub mod Dense
 pub mod Examples
+pub mod Translation
