@@ -62,8 +62,8 @@ pub fn choice_rows(
     requires literal_apart { EachColumn (λ c. ¬ (c ≡ column)) literal.now.terms }
     requires hit_apart { EachColumn (λ c. ¬ (c ≡ column)) hit.now.terms }
     requires other_apart { EachColumn (λ c. ¬ (c ≡ column)) other.now.terms }
-    ensures meaning { IfOk result (λ rows. MeanChoice literal.now hit.now hit_range other.now other_range column rows.items) }
-    ensures stated { IfOk result (λ rows. AreChoice literal.now hit.now hit_range other.now other_range column rows.items) }
+    ensures meaning { IfOk result (λ r. MeanChoice literal.now hit.now hit_range other.now other_range column r.items) }
+    ensures stated { IfOk result (λ r. AreChoice literal.now hit.now hit_range other.now other_range column r.items) }
     ensures below { IfOk result (λ rows. BelowAll column literal.now hit.now other.now rows.items) }
     ensures judged { Judged (choice_numbers literal.now hit.now hit_range other.now other_range) result }
 {
@@ -125,7 +125,8 @@ fn rows_at_one(
     requires terms { AreTerms form.now.terms }
     requires apart { EachColumn (λ c. ¬ (c ≡ column)) form.now.terms }
     requires own_apart { EachColumn (λ c. ¬ (c ≡ column)) literal.now.terms }
-    ensures added { IfOk result (λ _. AddsOpposite upper lower literal.now form.now column rows.old.items rows.new.items) }
+    ensures added { IfOk result (λ _.
+        AddsOpposite upper lower literal.now form.now column rows.old.items rows.new.items) }
     ensures judged { Judged (opposite_numbers upper lower literal.now form.now) result }
 {
     let opposite = opposite(alloc, literal)?;
