@@ -1,5 +1,5 @@
 -- The intervals of a program's names along an order of definition, and the operations that give them.
-use Rattle.std.specs.Prelude.{◌≡◌, ℕ, zero, suc, ◌<◌, List, [], ◌∷◌, ◌++◌, Option, Some, None, true, false, map, cond}
+use Rattle.std.specs.Prelude.{ℕ, zero, suc, List, [], ◌∷◌, ◌++◌, Option, Some, None, true, false, cond}
 use Rattle.std.proofs.Common.{set}
 use Rattle.std.specs.Ordering.{is_le}
 use Rattle.hys_number.specs.Number.{Number}

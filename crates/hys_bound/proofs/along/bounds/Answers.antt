@@ -1,8 +1,8 @@
-use Rattle.std.proofs.Common.{◌≡◌, ◌<◌, length, ℕ, sym, ◌∙◌, ap, subst, List, arith, get_or, None, Some, refl}
+use Rattle.std.proofs.Common.{◌≡◌, ◌<◌, length, ℕ, ◌∙◌, ap, subst, List, arith, get_or, None, Some}
 use Rattle.hys_lin.specs.declared.form.Interval.{Interval}
 use Rattle.hys_prog.specs.declared.program.ProgItem.{ProgItem}
 use Rattle.hys_bound.specs.Ranges.{declared, interval_at, asked_at, all_at, first_unfit, Placed, range_numbers}
-use Rattle.hys_bound.proofs.Turns.{turn, named_below, onward_more, onward_lost, onward_end, declared_count, judged_on, judged_err}
+use Rattle.hys_bound.proofs.Turns.{turn, named_below, onward_more, onward_lost, declared_count, judged_on, judged_err}
 use Rattle.hys_bound.proofs.along.bounds.Goals as goal
 
 pub index-requires : goal.index-requires
