@@ -16,6 +16,16 @@ name_map P Q [] n f h = absurd h
 name_map P Q (x ∷ xs) zero f h = f x h
 name_map P Q (x ∷ xs) (suc n) f h = name_map P Q xs n f h
 
+pub name_both : (P Q : Name → Type 0) (xs : List Name) (n : ℕ) → NameAt xs n P → NameAt xs n Q → NameAt xs n (λ x. P x × Q x)
+name_both P Q [] n h k = absurd h
+name_both P Q (x ∷ xs) zero h k = (h, k)
+name_both P Q (x ∷ xs) (suc n) h k = name_both P Q xs n h k
+
+pub name_never : (P : Name → Type 0) (xs : List Name) (n : ℕ) → ((x : Name) → ¬ (P x)) → NameAt xs n P → ⊥
+name_never P [] n f h = h
+name_never P (x ∷ xs) zero f h = f x h
+name_never P (x ∷ xs) (suc n) f h = name_never P xs n f h
+
 abbrev pub IsAuxiliary : Name → Type 0
 IsAuxiliary x = is_auxiliary x.role ≡ true
 
@@ -41,6 +51,16 @@ at_place part k n (x ∷ xs) h = go (part x.role) refl h (λ h. at_place part (s
     go true e (inl q) f = (0, omega arith, e)
     go true e (inr h) f = later (f h)
     go false e h f = later (f h)
+
+-- a name of the list is one of the places from k on
+pub place_of : (part : Role → Bool) (k i n : ℕ) (xs : List Name) → n ≡ k + i → NameAt xs i (λ x. part x.role ≡ true) → IsIn n (places_from k part xs)
+place_of part k i n [] e h = absurd h
+place_of part k zero n (x ∷ xs) e h = rw h (inl (omega arith))
+place_of part k (suc i) n (x ∷ xs) e h = go (part x.role) (place_of part (suc k) i n xs (omega arith) h)
+  where
+    go : (b : Bool) → IsIn n (places_from (suc k) part xs) → IsIn n (cond b (k ∷ places_from (suc k) part xs) (places_from (suc k) part xs))
+    go true i = inr i
+    go false i = i
 
 -- an auxiliary is the name at its place
 pub aux_at : (p : Program) (n : ℕ) → IsIn n (places is_auxiliary p) → NameAt p.names n IsAuxiliary
