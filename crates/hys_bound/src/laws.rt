@@ -10,5 +10,6 @@ ghost use Rattle.hys_bound.specs.Values.{TakesValues};
 /// The names take the numbers of every legal step, so that intervals that hold what the names take
 /// hold these.
 pub fn a_legal_step()
-    ensures { (p : Program) (x u : List Number) (w : Assignment) (x' y : List Number) → Legal p x u w x' y → TakesValues p w }
+    ensures { (p : Program) (x u : List Number) (w : Assignment) (x' y : List Number) →
+        Legal p x u w x' y → TakesValues p w }
 {}

@@ -11,7 +11,7 @@ use Rattle.hys_prog.specs.Orders.{IsIn, IsNone, Leads, LeadsTo, Circular, IsRead
 use Rattle.hys_order.specs.Lists.{others}
 use Rattle.hys_order.specs.Links.{link, Untaken, Ready, Taking, IsStuck, AreLinksOf, Chain, IsRound}
 use Rattle.hys_prog.proofs.Members.{in_at, at_in, none_in, all_of, each_of, first_holds, first_in, first_map, first_same}
-use Rattle.hys_order.proofs.Taken.{untaken_below, taking_grows}
+use Rattle.hys_order.proofs.Taken.{either_mark, untaken_below, taking_grows}
 use Rattle.hys_prog.proofs.Defined.{name_below}
 use Rattle.hys_prog.proofs.Names.{IsAuxiliary, aux_at}
 
@@ -21,13 +21,6 @@ record Marks (p : Program) (done : List ℕ) (taken : List Bool) : Type 0 where
   count : length taken ≡ length p.names
   marked : (n : ℕ) → get_or taken n true ≡ true → IsIn n (places is_auxiliary p) → IsIn n done
   unmarked : (n : ℕ) → Untaken taken n → IsNone n done × IsIn n (places is_auxiliary p)
-
-either_mark : (taken : List Bool) (n : ℕ) → (get_or taken n true ≡ true) ⊎ Untaken taken n
-either_mark taken n = go (get_or taken n true) refl
-  where
-    go : (b : Bool) → get_or taken n true ≡ b → (get_or taken n true ≡ true) ⊎ Untaken taken n
-    go true e = inl e
-    go false e = inr e
 
 pub others_count : (xs : List Name) → length (others xs) ≡ length xs
 others_count [] = refl

@@ -3,3 +3,4 @@ pub mod Linked
 pub mod Rounds
 pub mod Definable
 pub mod Walked
+pub mod Total
