@@ -3,6 +3,7 @@
 
 mod along;
 mod fault;
+pub mod laws;
 mod ranges;
 
 pub use along::bounds;

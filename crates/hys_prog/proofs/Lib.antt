@@ -1,2 +1,4 @@
 pub mod Smallest
 pub mod Defined
+pub mod Names
+pub mod Members
