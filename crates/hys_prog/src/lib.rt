@@ -3,8 +3,12 @@
 
 mod definition;
 pub mod laws;
+mod number;
 mod program;
+mod settle;
+mod stop;
 
 pub use definition::definitions;
 pub use hys_formula::{Connective, Formula, NameId};
 pub use program::{Body, Name, Order, ProgItem, Program, Role};
+pub use stop::{StepFault, Stepped, Stop};
