@@ -1,3 +1,4 @@
 pub mod Smallest
 pub mod Defined
 pub mod Stopping
+pub mod Walking

@@ -1,5 +1,5 @@
 -- The exact values of a program's names, found along an order of definition.
-use Rattle.std.specs.Prelude.{◌≡◌, ℕ, List, [], ◌∷◌, ◌++◌, cond, drop}
+use Rattle.std.specs.Prelude.{◌≡◌, ℕ, zero, suc, ◌+◌, ◌<◌, List, [], ◌∷◌, ◌++◌, Bool, true, false, cond, drop, length}
 use Rattle.std.proofs.Common.{get_or, set}
 use Rattle.hys_number.specs.Number.{Number}
 use Rattle.hys_number.specs.Ops.{whole}
@@ -10,25 +10,49 @@ use Rattle.hys_prog.specs.declared.program.Name.{Name}
 use Rattle.hys_prog.specs.declared.program.ProgItem.{ProgItem}
 use Rattle.hys_prog.specs.declared.program.Program.{Program}
 use Rattle.hys_prog.specs.declared.program.Order.{Order}
-use Rattle.hys_prog.specs.Steps.{places, is_state, is_input, is_output}
+use Rattle.hys_prog.specs.Programs.{is_named}
+use Rattle.hys_prog.specs.Steps.{places, is_state, is_input, is_output, is_parameter, is_auxiliary}
 use Rattle.hys_prog.specs.Stops.{Check, boxes_from, checks_of, checks_along, demands_from, number_in}
 
-abbrev pub first_of : List Number → Number
-first_of xs = get_or xs 0 (whole 0)
+-- whether a role is that of the part
+abbrev pub is_role : Role → Role → Bool
+is_role State = is_state
+is_role Input = is_input
+is_role Output = is_output
+is_role Parameter = is_parameter
+is_role Aux = is_auxiliary
+
+abbrev pub advanced : ℕ → Bool → ℕ
+advanced n b = cond b (suc n) n
 
 -- the value of a name at first: that of a parameter, the next given one of a state or an input, and 0 until it is
 -- found
-abbrev pub first_value : Role → Name → List Number → List Number → Number
-first_value State k x u = first_of x
-first_value Input k x u = first_of u
-first_value Output k x u = whole 0
-first_value Parameter k x u = k.value
-first_value Aux k x u = whole 0
+abbrev pub first_value : Role → Name → Number → Number → Number
+first_value State k a b = a
+first_value Input k a b = b
+first_value Output k a b = whole 0
+first_value Parameter k a b = k.value
+first_value Aux k a b = whole 0
 
--- the values of the names at first
+-- the values of the names at first, where i states and j inputs are given before them
+abbrev pub started_from : List Name → ℕ → ℕ → List Number → List Number → List Number
+started_from [] i j x u = []
+started_from (k ∷ ks) i j x u = first_value k.role k (at x i) (at u j) ∷ started_from ks (advanced i (is_state k.role)) (advanced j (is_input k.role)) x u
+
 abbrev pub started : List Name → List Number → List Number → List Number
-started [] x u = []
-started (k ∷ ks) x u = first_value k.role k x u ∷ started ks (cond (is_state k.role) (drop 1 x) x) (cond (is_input k.role) (drop 1 u) u)
+started names x u = started_from names 0 0 x u
+
+-- ---- definitions
+-- the item at the place is the first that defines the name
+abbrev pub IsFirstAt : List ProgItem → ℕ → ℕ → Type 0
+IsFirstAt [] k n = ⊥
+IsFirstAt (t ∷ ts) zero n = is_named n t.name ≡ true
+IsFirstAt (t ∷ ts) (suc k) n = (is_named n t.name ≡ false) × IsFirstAt ts k n
+
+-- the list has the place of the first item that defines the name
+pub record IsPlaced (items : List ProgItem) (places : List ℕ) (n : ℕ) : Type 0 where
+  pub within : n < length places
+  pub first : IsFirstAt items (get_or places n 0) n
 
 -- the values, of which that of one auxiliary is found more
 abbrev pub with_found : List ProgItem → ℕ → List Number → List Number

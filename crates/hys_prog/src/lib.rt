@@ -1,7 +1,9 @@
 //! A program: names, formulas and items, with their meaning under an assignment.
 #![tactic(auto)]
 
+mod along;
 mod definition;
+mod given;
 pub mod laws;
 mod number;
 mod program;
