@@ -11,7 +11,9 @@ use Rattle.hys_prog.specs.declared.stop.StepFault.{StepFault}
 use Rattle.hys_prog.specs.declared.stop.StepFault.TheVariants.{Stop as Stopped, Memory}
 use Rattle.hys_prog.specs.Programs.{is_named}
 use Rattle.hys_prog.specs.Stops.{Check, first_stop, Faulted, body_checks, checks_of, checks_along, number_of, number_in, numbers_in}
-use Rattle.hys_prog.specs.Walk.{IsFirstAt, IsPlaced, found, found_checks, with_found}
+use Rattle.hys_prog.specs.Walk.{IsFirstAt, IsPlaced, found, found_checks, with_found, advanced, started_from}
+use Rattle.hys_prog.specs.Steps.{is_state, is_input}
+use Rattle.hys_prog.specs.declared.program.Name.{Name}
 use Rattle.hys_prog.proofs.Stopping.{stop_after, fault_before}
 
 pub drop_here : {X : Type 0} (xs : List X) (i : ℕ) (x : X) → i < length xs → x ≡ get_or xs i x → drop i xs ≡ x ∷ drop (suc i) xs
@@ -81,3 +83,7 @@ given_stop w items ns rest n o h e = passed o (checks_along w items ns) (checks_
 
 pub given_fault : (w : Assignment) (items : List ProgItem) (all ns rest : List ℕ) (n : ℕ) (f : StepFault) → first_stop (checks_along w items all) ≡ first_stop (checks_along w items ns) → ns ≡ n ∷ rest → Faulted (checks_of w n 0 items) f → Faulted (checks_along w items all) f
 given_fault w items all ns rest n f h e = stopped (checks_along w items all) (checks_along w items ns) (checks_of w n 0 items) (checks_along w items rest) f h (ap (λ (ms : List ℕ). checks_along w items ms) e)
+
+pub started_count : (ks : List Name) (i j : ℕ) (x u : List Number) → length (started_from ks i j x u) ≡ length ks
+started_count [] i j x u = refl
+started_count (k ∷ ks) i j x u = ap suc (started_count ks (advanced i (is_state k.role)) (advanced j (is_input k.role)) x u)

@@ -1,18 +1,19 @@
 -- The exact values of a program's names, found along an order of definition.
-use Rattle.std.specs.Prelude.{◌≡◌, ℕ, zero, suc, ◌+◌, ◌<◌, List, [], ◌∷◌, ◌++◌, Bool, true, false, cond, drop, length}
+use Rattle.std.specs.Prelude.{◌≡◌, ℕ, zero, suc, ◌+◌, ◌<◌, List, [], ◌∷◌, ◌++◌, Bool, true, false, cond, length, map}
 use Rattle.std.proofs.Common.{get_or, set}
 use Rattle.hys_number.specs.Number.{Number}
 use Rattle.hys_number.specs.Ops.{whole}
-use Rattle.hys_lin.specs.Sums.{at}
+use Rattle.hys_lin.specs.Sums.{Assignment, at}
 use Rattle.hys_prog.specs.declared.program.Role.{Role}
 use Rattle.hys_prog.specs.declared.program.Role.TheVariants.{State, Input, Output, Parameter, Aux}
 use Rattle.hys_prog.specs.declared.program.Name.{Name}
 use Rattle.hys_prog.specs.declared.program.ProgItem.{ProgItem}
 use Rattle.hys_prog.specs.declared.program.Program.{Program}
 use Rattle.hys_prog.specs.declared.program.Order.{Order}
+use Rattle.hys_prog.specs.declared.stop.Stepped.{Stepped}
 use Rattle.hys_prog.specs.Programs.{is_named}
 use Rattle.hys_prog.specs.Steps.{places, is_state, is_input, is_output, is_parameter, is_auxiliary}
-use Rattle.hys_prog.specs.Stops.{Check, boxes_from, checks_of, checks_along, demands_from, number_in}
+use Rattle.hys_prog.specs.Stops.{Check, boxes_from, checks_of, checks_along, demands_from, number_in, numbers_in}
 
 -- whether a role is that of the part
 abbrev pub is_role : Role → Role → Bool
@@ -79,3 +80,9 @@ after_checks p vs = demands_from 0 (at vs) p.items ++ (checks_along (at vs) p.it
 
 abbrev pub walk_checks : Program → Order → List Number → List Number → List Check
 walk_checks p o x u = given_checks p.names (started p.names x u) ++ (found_checks p.items o.names (started p.names x u) ++ after_checks p (exact p o x u))
+
+-- what a step gives over the values of the names: the auxiliaries', and what the items give to states and outputs
+pub record Gives (p : Program) (w : Assignment) (r : Stepped) : Type 0 where
+  pub aux : r.aux ≡ map w (places is_auxiliary p)
+  pub outputs : r.outputs ≡ numbers_in w p.items (places is_output p)
+  pub next : r.next ≡ numbers_in w p.items (places is_state p)

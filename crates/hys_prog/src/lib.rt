@@ -8,6 +8,7 @@ pub mod laws;
 mod number;
 mod program;
 mod settle;
+mod step;
 mod stop;
 
 pub use definition::definitions;
