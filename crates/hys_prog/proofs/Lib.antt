@@ -3,3 +3,8 @@ pub mod Defined
 pub mod Stopping
 pub mod Walking
 pub mod Placing
+pub mod Deciding
+pub mod Reading
+pub mod Assigning
+pub mod Valuing
+pub mod Judging

@@ -24,7 +24,7 @@ at_count n [] k h = absurd h
 at_count n (t ∷ ts) zero h = rw (named_some n t.name h) (omega arith)
 at_count n (t ∷ ts) (suc k) h = let l = at_count n ts k h in omega arith
 
-first_at : (n : ℕ) (ts : List ProgItem) (k : ℕ) → definitions n ts ≡ 1 → ItemAt ts k (Defines n) → IsFirstAt ts k n
+pub first_at : (n : ℕ) (ts : List ProgItem) (k : ℕ) → definitions n ts ≡ 1 → ItemAt ts k (Defines n) → IsFirstAt ts k n
 first_at n [] k d h = h
 first_at n (t ∷ ts) zero d h = named_some n t.name h
 first_at n (t ∷ ts) (suc k) d h = go (is_named n t.name) refl d (at_count n ts k h) (λ e. first_at n ts k e h)

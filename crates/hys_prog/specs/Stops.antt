@@ -23,8 +23,9 @@ use Rattle.hys_prog.specs.declared.stop.Stop.{Stop}
 use Rattle.hys_prog.specs.declared.stop.Stop.TheVariants.{Bounds, Gap, Must, Range}
 use Rattle.hys_prog.specs.declared.stop.StepFault.{StepFault}
 use Rattle.hys_prog.specs.declared.stop.StepFault.TheVariants.{Stop as Stopped, Memory}
+use Rattle.hys_prog.specs.declared.stop.Stepped.{Stepped}
 use Rattle.hys_prog.specs.Programs.{EachItem, is_must, is_named}
-use Rattle.hys_prog.specs.Steps.{places, is_parameter, is_state, is_input, is_output, EachNameFrom, CaseOf}
+use Rattle.hys_prog.specs.Steps.{places, is_parameter, is_state, is_input, is_output, is_auxiliary, EachNameFrom, CaseOf, Legal}
 
 -- ---- valued assignments
 -- The assignment has the parameters' values, x on the states and u on the inputs, and the case of each auxiliary
@@ -172,3 +173,9 @@ Keeps b (Range k l) = Unit {0}
 abbrev pub IsLawful : List Check → Type 0
 IsLawful [] = Unit {0}
 IsLawful (c ∷ cs) = Keeps c.passes c.stop × IsLawful cs
+
+-- what a step gives: a legal step over some assignment, with the values of the auxiliaries
+pub record IsStepped (p : Program) (x u : List Number) (r : Stepped) : Type 0 where
+  pub values : Assignment
+  pub legal : Legal p x u values r.next r.outputs
+  pub aux : r.aux ≡ map values (places is_auxiliary p)
