@@ -1,7 +1,7 @@
 -- The stops of a step over its assignment, and legal steps.
 use Rattle.std.proofs.Common.{◌≡◌, ℕ, zero, suc, ◌+◌, ◌<◌, List, [], ◌∷◌, ◌++◌, Option, Some, None, Bool, true, false, cond, map, length, get_or, refl, sym, ◌∙◌, ap, ap₂, subst, arith, inl, inr, ◌⊎◌, ◌||◌, Result, Ok, Err}
 use Rattle.std.proofs.lemmas.List.{append_assoc}
-use Rattle.std.specs.Prelude.{IsTrue}
+use Rattle.std.specs.Prelude.{IsTrue, IfOk}
 use Rattle.hys_number.specs.Number.{Number}
 use Rattle.hys_number.specs.Ops.{whole, fits, ◌≤ₙ◌, ◌<ₙ◌}
 use Rattle.hys_number.proofs.Order.{lt_of_le-lt, lt_of_lt-le, lt_irrefl}
@@ -25,13 +25,14 @@ use Rattle.hys_prog.specs.declared.stop.Stepped.{Stepped}
 use Rattle.hys_prog.specs.Programs.{IsProgram, EachItem, NameAt, Named, Suits, IsVariable, has_column, is_named, is_must}
 use Rattle.hys_prog.specs.Steps.{places, places_from, is_auxiliary, is_state, is_output, is_input, is_given, InBox, InGap, GapAt, Demand, DemandOf, Next, NextOf, OfName, EachNameFrom, Step, Legal}
 use Rattle.hys_prog.specs.Orders.{IsOrder, IsIn}
+use Rattle.hys_prog.specs.Places.{Defines}
 use Rattle.hys_prog.specs.Stops.{Check, IsValued, Judged, first_stop, at_most, equals, in_box, one, no_gap, fitting, form_fits, body_checks, boxes_from, checks_of, checks_along, demands_from, stops, number_of, number_in, numbers_in, Keeps, IsLawful, IsStepped}
 use Rattle.hys_prog.specs.Walk.{Gives, found_checks, started, exact, walk_checks, given_checks, after_checks}
-use Rattle.hys_prog.proofs.Defined.{at_item, each_at}
+use Rattle.hys_prog.proofs.Defined.{at_item, each_at, some_named}
 use Rattle.hys_prog.proofs.Deciding.{most_yes, yes_most, equal_yes, yes_equal, or_parts, or_left, or_right, box_yes, yes_box, sides}
 use Rattle.hys_prog.proofs.Placing.{name_map, first_at, in_part}
 use Rattle.hys_prog.proofs.Walking.{first_number, checks_here, started_count}
-use Rattle.hys_prog.proofs.Reading.{AllRead, Same, same_along, same_demands, same_numbers, all_read}
+use Rattle.hys_prog.proofs.Reading.{AllRead, Same, same_along, same_demands, same_numbers, all_read, named_suits}
 use Rattle.hys_prog.proofs.Assigning.{is_fixed, Is, Follows, found_same, in_order}
 use Rattle.hys_prog.proofs.Valuing.{Stands, suits_here, once_here, number_here, each_of, cases_follow, started_agrees, valued_exact, exact_valued}
 
@@ -235,3 +236,146 @@ gap_lawful w k (OutReal f) h i = lawful_fits k _
 gap_lawful w k (MustHold l) h i = absurd (cc)
 gap_lawful w k (MustMost f) h i = absurd (cc)
 gap_lawful w k (MustZero f) h i = absurd (cc)
+
+-- ---- items that define names
+first_here : (p : Program) (w : Assignment) (k n : ℕ) (t : ProgItem) → IsProgram p → Stands p k t → t.name ≡ Some n → checks_of w n 0 p.items ≡ body_checks w k t.body
+first_here p w k n t h s e = checks_here w n p.items k t (first_at n p.items k (once_here p k n t h s e) (at_item (Defines n) p.items k t e s.below s.is)) s.is
+
+along_lawful : (w : Assignment) (ts : List ProgItem) (ns : List ℕ) (n : ℕ) → IsLawful (checks_along w ts ns) → IsIn n ns → IsLawful (checks_of w n 0 ts)
+along_lawful w ts [] n h i = absurd i
+along_lawful w ts (m ∷ ns) n h (inl e) = subst (λ (k : ℕ). IsLawful (checks_of w k 0 ts)) e (lawful_parts (checks_of w m 0 ts) (checks_along w ts ns) h).0
+along_lawful w ts (m ∷ ns) n h (inr i) = along_lawful w ts ns n (lawful_parts (checks_of w m 0 ts) (checks_along w ts ns) h).1 i
+
+must_gap : (w : Assignment) (b : Body) → is_must b ≡ true → GapAt w b → ⊥
+must_gap w (Guard f e) q i = absurd (cc)
+must_gap w (Choice l a b) q i = i
+must_gap w (Logic l) q i = i
+must_gap w (Linear f) q i = i
+must_gap w (NextBool l) q i = i
+must_gap w (NextReal f) q i = i
+must_gap w (OutBool l) q i = i
+must_gap w (OutReal f) q i = i
+must_gap w (MustHold l) q i = i
+must_gap w (MustMost f) q i = i
+must_gap w (MustZero f) q i = i
+
+aux_role : (r : Role) → r ≡ Aux → is_auxiliary r ≡ true
+aux_role r e = rw e refl
+
+gap_aux : (w : Assignment) (b : Body) (x : Name) → GapAt w b → Suits b x → is_auxiliary x.role ≡ true
+gap_aux w (Guard f e) x i s = aux_role x.role s.0
+gap_aux w (Choice l a b) x i s = absurd i
+gap_aux w (Logic l) x i s = absurd i
+gap_aux w (Linear f) x i s = absurd i
+gap_aux w (NextBool l) x i s = absurd i
+gap_aux w (NextReal f) x i s = absurd i
+gap_aux w (OutBool l) x i s = absurd i
+gap_aux w (OutReal f) x i s = absurd i
+gap_aux w (MustHold l) x i s = absurd i
+gap_aux w (MustMost f) x i s = absurd i
+gap_aux w (MustZero f) x i s = absurd i
+
+lawful_no_gap : (p : Program) (o : Order) (w : Assignment) → IsProgram p → IsOrder p o → IsLawful (checks_along w p.items o.names) → EachItem (λ t. ¬ (InGap w t)) p.items
+lawful_no_gap p o w h q l = each_of (λ (t : ProgItem). ¬ (InGap w t)) p.items (λ k t b e i. go k t (record { below = b; is = e }) t.name refl (each_at (λ (t : ProgItem). Named p.names t.name t.body) p.items k t h.named b e) i)
+  where
+    go : (k : ℕ) (t : ProgItem) → Stands p k t → (m : Option ℕ) → t.name ≡ m → Named p.names m t.body → InGap w t → ⊥
+    go k t s None e d i = must_gap w t.body d i
+    go k t s (Some n) e d i =
+        let a = name_map (Suits t.body) (λ (x : Name). is_auxiliary x.role ≡ true) p.names n (λ x c. gap_aux w t.body x i c) d in
+        lawful_gap w k t.body (subst IsLawful (first_here p w k n t h s e) (along_lawful w p.items o.names n l (in_order p o n q a))) i
+
+suits_must : (xs : List Name) (n : ℕ) (b : Body) → NameAt xs n (Suits b) → is_must b ≡ false
+suits_must [] n b h = absurd h
+suits_must (x ∷ xs) (suc n) b h = suits_must xs n b h
+suits_must (x ∷ xs) zero (Guard f e) h = refl
+suits_must (x ∷ xs) zero (Choice l a b) h = refl
+suits_must (x ∷ xs) zero (Logic l) h = refl
+suits_must (x ∷ xs) zero (Linear f) h = refl
+suits_must (x ∷ xs) zero (NextBool l) h = refl
+suits_must (x ∷ xs) zero (NextReal f) h = refl
+suits_must (x ∷ xs) zero (OutBool l) h = refl
+suits_must (x ∷ xs) zero (OutReal f) h = refl
+suits_must (x ∷ xs) zero (MustHold l) h = absurd h
+suits_must (x ∷ xs) zero (MustMost f) h = absurd h
+suits_must (x ∷ xs) zero (MustZero f) h = absurd h
+
+of_lawful : (names : List Name) (w : Assignment) (n k : ℕ) (ts : List ProgItem) → EachItem (λ t. ¬ (InGap w t)) ts → EachItem (λ t. Named names t.name t.body) ts → IsLawful (checks_of w n k ts)
+of_lawful names w n k [] h d = tt
+of_lawful names w n k (t ∷ ts) h d = go (is_named n t.name) refl (of_lawful names w n (suc k) ts h.1 d.1)
+  where
+    go : (b : Bool) → is_named n t.name ≡ b → IsLawful (checks_of w n (suc k) ts) → IsLawful (cond b (body_checks w k t.body) (checks_of w n (suc k) ts))
+    go true e r = gap_lawful w k t.body h.0 (suits_must names n t.body (named_suits names n t.name t.body (some_named n t.name e) d.0))
+    go false e r = r
+
+each_lawful : (p : Program) (w : Assignment) (ns : List ℕ) → IsProgram p → EachItem (λ t. ¬ (InGap w t)) p.items → IsLawful (checks_along w p.items ns)
+each_lawful p w [] h g = tt
+each_lawful p w (n ∷ ns) h g = lawful_both (checks_of w n 0 p.items) (checks_along w p.items ns) (of_lawful p.names w n 0 p.items g h.named) (each_lawful p w ns h g)
+
+-- ---- next values and outputs
+abbrev after_of : Program → Assignment → Assignment
+after_of p w n = number_in w n p.items
+
+next_case : (w after : Assignment) (n : ℕ) (b : Body) → after n ≡ number_of w b → Next w after n b
+next_case w after n (Guard f e) h = tt
+next_case w after n (Choice l a b) h = tt
+next_case w after n (Logic l) h = tt
+next_case w after n (Linear f) h = tt
+next_case w after n (NextBool l) h = h
+next_case w after n (NextReal f) h = h
+next_case w after n (OutBool l) h = h
+next_case w after n (OutReal f) h = h
+next_case w after n (MustHold l) h = tt
+next_case w after n (MustMost f) h = tt
+next_case w after n (MustZero f) h = tt
+
+all_next : (p : Program) (w : Assignment) → IsProgram p → EachItem (NextOf w (after_of p w)) p.items
+all_next p w h = each_of (NextOf w (after_of p w)) p.items (λ k t b e. go k t (record { below = b; is = e }) t.name refl)
+  where
+    go : (k : ℕ) (t : ProgItem) → Stands p k t → (m : Option ℕ) → t.name ≡ m → OfName (λ n. Next w (after_of p w) n t.body) m
+    go k t s None e = tt
+    go k t s (Some n) e = next_case w (after_of p w) n t.body (number_here p w k n t h s e)
+
+mapped : (p : Program) (w : Assignment) (ns : List ℕ) → map (after_of p w) ns ≡ numbers_in w p.items ns
+mapped p w [] = refl
+mapped p w (n ∷ ns) = ap (λ (xs : List Number). number_in w n p.items ∷ xs) (mapped p w ns)
+
+-- ---- legal steps
+pub lawful_legal : (p : Program) (o : Order) (x u : List Number) (w : Assignment) → IsProgram p → IsOrder p o → IsValued p x u w → IsLawful (stops p o w) → Legal p x u w (numbers_in w p.items (places is_state p)) (numbers_in w p.items (places is_output p))
+lawful_legal p o x u w h q v l =
+    let after = checks_along w p.items (places is_state p) ++ checks_along w p.items (places is_output p) in
+    let a = lawful_parts (boxes_from 0 is_state w p.names) (boxes_from 0 is_input w p.names ++ (checks_along w p.items o.names ++ (demands_from 0 w p.items ++ after))) l in
+    let b = lawful_parts (boxes_from 0 is_input w p.names) (checks_along w p.items o.names ++ (demands_from 0 w p.items ++ after)) a.1 in
+    let c = lawful_parts (checks_along w p.items o.names) (demands_from 0 w p.items ++ after) b.1 in
+    let d = lawful_parts (demands_from 0 w p.items) after c.1 in
+    record {
+      step = record { parameters = v.parameters; states = v.states; inputs = v.inputs; cases = v.cases; after = after_of p w; next = all_next p w h; end = mapped p w (places is_state p); outputs = mapped p w (places is_output p) };
+      boxes = lawful_boxes w 0 p.names a.0 b.0;
+      demands = lawful_demands w 0 p.items d.0;
+      no_gap = lawful_no_gap p o w h q c.0;
+    }
+
+pub legal_lawful : (p : Program) (o : Order) (x u : List Number) (w : Assignment) (x' y : List Number) → IsProgram p → Legal p x u w x' y → IsLawful (stops p o w)
+legal_lawful p o x u w x' y h l =
+    let next = checks_along w p.items (places is_state p) in
+    let out = checks_along w p.items (places is_output p) in
+    let along = checks_along w p.items o.names in
+    let must = demands_from 0 w p.items in
+    let g = l.no_gap in
+    lawful_both (boxes_from 0 is_state w p.names) (boxes_from 0 is_input w p.names ++ (along ++ (must ++ (next ++ out)))) (boxes_lawful is_state w 0 p.names state_given l.boxes)
+    (lawful_both (boxes_from 0 is_input w p.names) (along ++ (must ++ (next ++ out))) (boxes_lawful is_input w 0 p.names input_given l.boxes)
+    (lawful_both along (must ++ (next ++ out)) (each_lawful p w o.names h g)
+    (lawful_both must (next ++ out) (demands_lawful w 0 p.items l.demands)
+    (lawful_both next out (each_lawful p w (places is_state p) h g) (each_lawful p w (places is_output p) h g)))))
+
+-- ---- what the walk gives
+pub judged_stops : (p : Program) (o : Order) (x u : List Number) (r : Result Stepped StepFault) → IsProgram p → IsOrder p o → Judged (walk_checks p o x u) r → (w : Assignment) → IsValued p x u w → Judged (stops p o w) r
+judged_stops p o x u r h q j w v = subst (λ (cs : List Check). Judged cs r) (walk_stops p o x u w h q v) j
+
+pub walk_stepped : (p : Program) (o : Order) (x u : List Number) (r : Result Stepped StepFault) → IsProgram p → IsOrder p o → length x ≡ length (places is_state p) → length u ≡ length (places is_input p) → IfOk r (λ s. Gives p (at (exact p o x u)) s) → Judged (walk_checks p o x u) r → IfOk r (λ s. IsStepped p x u s)
+walk_stepped p o x u (Err f) h q l m g j = tt
+walk_stepped p o x u (Ok s) h q l m g j =
+    let w = at (exact p o x u) in
+    let v = exact_valued p o x u h q l m in
+    let z = subst (λ (cs : List Check). first_stop cs ≡ None) (walk_stops p o x u w h q v) j in
+    let y = lawful_legal p o x u w h q v (none_lawful (stops p o w) z) in
+    record { values = w; legal = rw (g.next, g.outputs) y; aux = g.aux }

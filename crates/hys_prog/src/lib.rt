@@ -8,10 +8,11 @@ pub mod laws;
 mod number;
 mod program;
 mod settle;
-mod step;
+mod stepping;
 mod stop;
 
 pub use definition::definitions;
 pub use hys_formula::{Connective, Formula, NameId};
 pub use program::{Body, Name, Order, ProgItem, Program, Role};
+pub use stepping::step;
 pub use stop::{StepFault, Stepped, Stop};

@@ -1,10 +1,10 @@
 ghost use Rattle.std.specs.Prelude.{◌≡◌, length, map, IfOk};
 ghost use Rattle.std.specs.List.{AllByRecursion};
-ghost use Rattle.hys_lin.specs.Sums.{at};
+ghost use Rattle.hys_lin.specs.Sums.{Assignment, at};
 ghost use Rattle.hys_prog.specs.Programs.{IsProgram};
 ghost use Rattle.hys_prog.specs.Orders.{IsOrder};
-ghost use Rattle.hys_prog.specs.Steps.{places, places_from, is_auxiliary, is_output, is_state};
-ghost use Rattle.hys_prog.specs.Stops.{Judged, checks_along, numbers_in};
+ghost use Rattle.hys_prog.specs.Steps.{places, places_from, is_auxiliary, is_input, is_output, is_state};
+ghost use Rattle.hys_prog.specs.Stops.{IsStepped, IsValued, Judged, checks_along, numbers_in, stops};
 ghost use Rattle.hys_prog.specs.Walk.{Gives, IsPlaced, after_checks, exact, is_role, walk_checks};
 
 use crate::along::{defined, found, judge_demands};
@@ -14,6 +14,33 @@ use crate::program::{Order, Program, Role};
 use crate::stop::{StepFault, Stepped};
 use hys_frac::{Frac, List};
 use std::alloc::{AllocError, Global};
+
+/// One step of the program from the values of its states and inputs, which stand in declaration
+/// order. Over the assignment that has these values and those of the definitions, in exact numbers,
+/// the answer is a legal step with the next values and the outputs.
+///
+/// # Errors
+/// `Stop` with the first of these, and with none where none stands: a state and then an input
+/// outside its bounds; for each auxiliary in the order of definition a number that doesn't fit, and
+/// then a gap; for each demand in source order a number that doesn't fit, and then that it doesn't
+/// hold; a number of the next values, and then of the outputs, that doesn't fit. `Memory` where
+/// memory is wanting, as it is for more names or items than a `u32` can number.
+pub fn step(
+    alloc: Global,
+    program: &Program,
+    order: &Order,
+    state: &[Frac],
+    input: &[Frac],
+) -> Result<Stepped, StepFault>
+    requires program { IsProgram program.now }
+    requires order { IsOrder program.now order.now }
+    requires states { length state.now ≡ length (places is_state program.now) }
+    requires inputs { length input.now ≡ length (places is_input program.now) }
+    ensures stop { (w : Assignment) → IsValued program.now state.now input.now w → Judged (stops program.now order.now w) result }
+    ensures done { IfOk result (λ r. IsStepped program.now state.now input.now r) }
+{
+    walk(alloc, program, order, state, input)
+}
 
 // The step, by the values of the names along the order.
 fn walk(

@@ -4,7 +4,7 @@ use Rattle.hys_prog.specs.declared.program.ProgItem.{ProgItem}
 use Rattle.hys_prog.specs.Steps.{places, is_state, is_output}
 use Rattle.hys_prog.specs.Stops.{first_stop, Faulted, demands_from, checks_along}
 use Rattle.hys_prog.proofs.Stopping.{stop_after, fault_before, fault_after}
-use Rattle.hys_prog.proofs.step.after.Goals as goal
+use Rattle.hys_prog.proofs.stepping.after.Goals as goal
 
 pub returns-in-Err-clause-judged : goal.returns-in-Err-clause-judged
 returns-in-Err-clause-judged c =

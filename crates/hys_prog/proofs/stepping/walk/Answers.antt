@@ -10,7 +10,7 @@ use Rattle.hys_prog.specs.Walk.{IsPlaced, started, given_checks, found_checks, a
 use Rattle.hys_prog.proofs.Stopping.{judged_after, fault_before, fault_after}
 use Rattle.hys_prog.proofs.Walking.{started_count}
 use Rattle.hys_prog.proofs.Placing.{order_placed, states_placed, outputs_placed}
-use Rattle.hys_prog.proofs.step.walk.Goals as goal
+use Rattle.hys_prog.proofs.stepping.walk.Goals as goal
 
 pub returns-in-Err-clause-judged : goal.returns-in-Err-clause-judged
 returns-in-Err-clause-judged c =
