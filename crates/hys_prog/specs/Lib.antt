@@ -3,3 +3,5 @@ pub mod Example
 pub mod Steps
 pub mod Orders
 pub mod Places
+pub mod Stops
+pub mod Walk
