@@ -6,3 +6,4 @@ pub mod Numbers
 pub mod Knowing
 pub mod Ends
 pub mod Zips
+pub mod KnownValues
