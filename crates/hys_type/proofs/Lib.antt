@@ -7,3 +7,6 @@ pub mod Knowing
 pub mod Ends
 pub mod Zips
 pub mod KnownValues
+pub mod Agree
+pub mod FormSums
+pub mod FormPlaces

@@ -8,3 +8,4 @@ pub mod Checks
 pub mod Dense
 pub mod Examples
 pub mod Translation
+pub mod Views
