@@ -10,3 +10,4 @@ pub mod KnownValues
 pub mod Agree
 pub mod FormSums
 pub mod FormPlaces
+pub mod FormulaTruths
