@@ -93,7 +93,7 @@ sum_unit (x ∷ ns) n m w d h = go (bytes_eq x.text n) refl h (sum_unit ns n m w
 abbrev pub HasParameters : Assignment → List Name → Type 0
 HasParameters w ns = AllByRecursion (λ n. IsTrue (is_parameter n.section) → w n.text ≡ n.value) ns
 
-constant_number : (ns : List Name) (a : Number) (w : Assignment) → a ≡ form_number ns (number_form a) w
+pub constant_number : (ns : List Name) (a : Number) (w : Assignment) → a ≡ form_number ns (number_form a) w
 constant_number ns a w = sym (ap (λ y. y +ₙ a) (sum_none ns (λ n. whole 0) w (λ n. refl)) ∙ by_ring (a ∷ []) (k 0 ⊕ v 0) (v 0) refl)
 
 pub parameter_value : (ns : List Name) (w : Assignment) (n : List ℕ) (m : Name) → HasParameters w ns → look ns n ≡ Some m → IsTrue (is_parameter m.section) → w n ≡ m.value

@@ -11,3 +11,4 @@ pub mod Agree
 pub mod FormSums
 pub mod FormPlaces
 pub mod FormulaTruths
+pub mod SameBodies
