@@ -12,3 +12,4 @@ pub mod FormSums
 pub mod FormPlaces
 pub mod FormulaTruths
 pub mod SameBodies
+pub mod SameSteps
