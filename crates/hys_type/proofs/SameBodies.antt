@@ -215,7 +215,7 @@ module _ (c : Setting) (w : Assignment) (v : PlaceAssignment) (a : Agree 0 c.nam
 
   pub same_demand : (o : Option Name) (k : Option Kind) (s : said.Body) (b : Body) → IsBodyOf c k s b → SameDemand o s b
   same_demand o k s b (guard {e} {t} {f} {eps} i j h q) = said_as o s (said.Guard e t) b (means.Guard f eps) i j (λ r.
-    ((λ x. x, λ x. x), both (λ (x y : Number). (whole 0 <ₙ x) × (x <ₙ y)) (guard_places e f r.0 h) (same_tolerance c.names c.tolerance w c.values t g u r.1 ∙ sym q)))
+      ((λ x. x, λ x. x), both (λ (x y : Number). (whole 0 <ₙ x) × (x <ₙ y)) (guard_places e f r.0 h) (same_tolerance c.names c.tolerance w c.values t g u r.1 ∙ sym q)))
   same_demand o k s b (choice {e = e} {h = x} {o = y} {l = l} {f = f} {g = q} i j h m n) = said_as o s (said.Choice e x y) b (means.Choice l f q) i j (λ r. nothing_said)
   same_demand o k s b (logic {e} {l} i j h) = said_as o s (said.Logic e) b (means.Logic l) i j (λ r. nothing_said)
   same_demand o k s b (linear {e} {f} i j h) = said_as o s (said.Linear e) b (means.Linear f) i j (λ r. nothing_said)
@@ -224,15 +224,15 @@ module _ (c : Setting) (w : Assignment) (v : PlaceAssignment) (a : Agree 0 c.nam
   same_demand o k s b (out_bool {e} {l} z i j h) = said_as o s (said.Output e) b (means.OutBool l) i j (λ r. nothing_said)
   same_demand o k s b (out_real {e} {f} z i j h) = said_as o s (said.Output e) b (means.OutReal f) i j (λ r. nothing_said)
   same_demand o k s b (must_hold {e} {l} z i j h) = said_as o s (said.Must e) b (means.MustHold l) i j (λ r.
-    let t = formula_places e l (the_formula c.names e z r) h in
-    ((λ x. sym t ∙ (holds_formula w e z).0 x, λ x. (holds_formula w e z).1 (t ∙ x)), (λ x. x, λ x. x)))
+      let t = formula_places e l (the_formula c.names e z r) h in
+      ((λ x. sym t ∙ (holds_formula w e z).0 x, λ x. (holds_formula w e z).1 (t ∙ x)), (λ x. x, λ x. x)))
   same_demand o k s b (must_most {e} {f} z i j h) = said_as o s (said.Must e) b (means.MustMost f) i j (λ r.
-    let t = guard_places e f (the_inequality c.names e z r) h in
-    ((λ x. subst (λ y. y ≤ₙ whole 0) t ((holds_most w e z).0 x), λ x. (holds_most w e z).1 (subst (λ y. y ≤ₙ whole 0) (sym t) x)), (λ x. x, λ x. x)))
+      let t = guard_places e f (the_inequality c.names e z r) h in
+      ((λ x. subst (λ y. y ≤ₙ whole 0) t ((holds_most w e z).0 x), λ x. (holds_most w e z).1 (subst (λ y. y ≤ₙ whole 0) (sym t) x)), (λ x. x, λ x. x)))
   same_demand o k s b (must_zero {x} {y} {p} {f} i j h) = said_as o s (said.Must (tree.Binary binary.Equal x y p)) b (means.MustZero f) i j (λ r.
-    let q = the_difference c.names x y p r in
-    let t = difference_places x y f q.0 q.1 h in
-    ((λ z. sym t ∙ (same_zero (value w x) (value w y)).0 z, λ z. (same_zero (value w x) (value w y)).1 (t ∙ z)), (λ x. x, λ x. x)))
+      let q = the_difference c.names x y p r in
+      let t = difference_places x y f q.0 q.1 h in
+      ((λ z. sym t ∙ (same_zero (value w x) (value w y)).0 z, λ z. (same_zero (value w x) (value w y)).1 (t ∙ z)), (λ x. x, λ x. x)))
 
   -- ---- cases and next values
   abbrev SameCase : List ℕ → ℕ → Assignment → PlaceAssignment → said.Body → Body → Type 0
@@ -246,17 +246,17 @@ module _ (c : Setting) (w : Assignment) (v : PlaceAssignment) (a : Agree 0 c.nam
 
   pub same_case : (n : List ℕ) (m : ℕ) (w' : Assignment) (v' : PlaceAssignment) (s : said.Body) (b : Body) → v m ≡ w n → v' m ≡ w' n → IsBodyOf c (kind_of (look c.names n)) s b → SameCase n m w' v' s b
   same_case n m w' v' s b x x' (guard {e} {t} {f} {eps} i j h q) = case_as n m w' v' s (said.Guard e t) b (means.Guard f eps) i j (λ r.
-    (both (λ (y z : Number). ((z ≤ₙ whole 0) × (y ≡ whole 1)) ⊎ ((whole 0 <ₙ z) × (y ≡ whole 0))) (sym x) (guard_places e f r.0 h), free))
+      (both (λ (y z : Number). ((z ≤ₙ whole 0) × (y ≡ whole 1)) ⊎ ((whole 0 <ₙ z) × (y ≡ whole 0))) (sym x) (guard_places e f r.0 h), free))
   same_case n m w' v' s b x x' (choice {e = e} {h = y} {o = z} {l = l} {f = f} {g = q} i j h o p) = case_as n m w' v' s (said.Choice e y z) b (means.Choice l f q) i j (λ r.
-    (both (λ (y z : Number). y ≡ z) (sym x) (ap (λ t. cond t (value w y) (else_value w z)) (formula_places e l r.0 h) ∙ ap₂ (cond (formula_truth (tree_of l) v)) (real_places y f r.1 o) (else_places z q r.2 p)), free))
+      (both (λ (y z : Number). y ≡ z) (sym x) (ap (λ t. cond t (value w y) (else_value w z)) (formula_places e l r.0 h) ∙ ap₂ (cond (formula_truth (tree_of l) v)) (real_places y f r.1 o) (else_places z q r.2 p)), free))
   same_case n m w' v' s b x x' (logic {e} {l} i j h) = case_as n m w' v' s (said.Logic e) b (means.Logic l) i j (λ r. (both (λ (y z : Number). y ≡ z) (sym x) (ap bit (formula_places e l r h)), free))
   same_case n m w' v' s b x x' (linear {e} {f} i j h) = case_as n m w' v' s (said.Linear e) b (means.Linear f) i j (λ r. (both (λ (y z : Number). y ≡ z) (sym x) (real_places e f r h), free))
   same_case n m w' v' s b x x' (next_bool {e} {l} i j h) = case_as n m w' v' s (said.NextBool e) b (means.NextBool l) i j (λ r. (free, both (λ (y z : Number). y ≡ z) (sym x') (ap bit (formula_places e l r h))))
   same_case n m w' v' s b x x' (next_real {e} {f} i j h) = case_as n m w' v' s (said.NextReal e) b (means.NextReal f) i j (λ r. (free, both (λ (y z : Number). y ≡ z) (sym x') (real_places e f r h)))
   same_case n m w' v' s b x x' (out_bool {e} {l} k i j h) = case_as n m w' v' s (said.Output e) b (means.OutBool l) i j (λ r.
-    let t = bool_output c.names (look c.names n) w e k r in (free, both (λ (y z : Number). y ≡ z) (sym x') (t.1 ∙ ap bit (formula_places e l t.0 h))))
+      let t = bool_output c.names (look c.names n) w e k r in (free, both (λ (y z : Number). y ≡ z) (sym x') (t.1 ∙ ap bit (formula_places e l t.0 h))))
   same_case n m w' v' s b x x' (out_real {e} {f} k i j h) = case_as n m w' v' s (said.Output e) b (means.OutReal f) i j (λ r.
-    let t = real_output c.names (look c.names n) w e k r in (free, both (λ (y z : Number). y ≡ z) (sym x') (t.1 ∙ real_places e f t.0 h)))
+      let t = real_output c.names (look c.names n) w e k r in (free, both (λ (y z : Number). y ≡ z) (sym x') (t.1 ∙ real_places e f t.0 h)))
   same_case n m w' v' s b x x' (must_hold {e} {l} z i j h) = case_as n m w' v' s (said.Must e) b (means.MustHold l) i j (λ r. (free, free))
   same_case n m w' v' s b x x' (must_most {e} {f} z i j h) = case_as n m w' v' s (said.Must e) b (means.MustMost f) i j (λ r. (free, free))
   same_case n m w' v' s b x x' (must_zero {x = y} {y = z} {p = p} {f = f} i j h) = case_as n m w' v' s (said.Must (tree.Binary binary.Equal y z p)) b (means.MustZero f) i j (λ r. (free, free))
