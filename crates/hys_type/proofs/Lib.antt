@@ -13,3 +13,4 @@ pub mod FormPlaces
 pub mod FormulaTruths
 pub mod SameBodies
 pub mod SameSteps
+pub mod ProgramNames

@@ -9,3 +9,4 @@ pub mod Dense
 pub mod Examples
 pub mod Translation
 pub mod Views
+pub mod Declaring
