@@ -65,7 +65,7 @@ found_place k (x ∷ ns) w v n m j a h e = go (bytes_eq x.text n) refl h e (foun
 pub at_place : (ns : List Name) (w : Assignment) (v : PlaceAssignment) (n : List ℕ) (m : Name) → Agree 0 ns w v → look ns n ≡ Some m → v (place_in ns n) ≡ w n
 at_place ns w v n m a h = found_place 0 ns w v n m (place_in ns n) a h (omega arith)
 
-some_name : (x m : Name) → Some x ≡ Some m → x ≡ m
+pub some_name : (x m : Name) → Some x ≡ Some m → x ≡ m
 some_name x m e = ap (λ o. elim o as (λ o. Name) [ Some y ↦ y | None ↦ x ]) e
 
 pub found_name : (P : Name → Type 0) (ns : List Name) (n : List ℕ) (m : Name) → AllByRecursion P ns → look ns n ≡ Some m → P m × (m.text ≡ n)

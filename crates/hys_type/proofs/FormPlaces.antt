@@ -22,14 +22,14 @@ use Rattle.hys_type.proofs.FormSums.{form_sum, form_number}
 same_column : (c j : ℕ) → nat_eq c j ≡ true → c ≡ j
 same_column c j e = eqb→eq c j (subst T (sym e) tt)
 
-other_column : (c j : ℕ) → ¬ (c ≡ j) → nat_eq c j ≡ false
+pub other_column : (c j : ℕ) → ¬ (c ≡ j) → nat_eq c j ≡ false
 other_column c j d = go (eqb c j) refl
   where
     go : (x : Bool) → eqb c j ≡ x → x ≡ false
     go true e = absurd (d (eqb→eq c j (subst T (sym e) tt)))
     go false e = refl
 
-own_column : (j : ℕ) → nat_eq j j ≡ true
+pub own_column : (j : ℕ) → nat_eq j j ≡ true
 own_column j = go (eqb j j) (eqb_refl j)
   where
     go : (x : Bool) → T x → x ≡ true
@@ -45,12 +45,12 @@ above c j e l = differs (λ s. absurd (never (sym e ∙ ap (λ i. nat_eq i j) s 
     differs : ¬ (c ≡ j) → j ≤ c → j < c
     differs d l = grind arith
 
-pub no_coefficient : (ts : List Term) (c : ℕ) → EachColumn (λ d. suc c ≤ d) ts → coefficient ts c ≡ whole 0
+no_coefficient : (ts : List Term) (c : ℕ) → EachColumn (λ d. suc c ≤ d) ts → coefficient ts c ≡ whole 0
 no_coefficient [] c h = refl
 no_coefficient (t ∷ ts) c h = ap (λ b. cond b t.factor (coefficient ts c)) (other_column t.column c (λ e. absurd (omega (arith, e, h.0)))) ∙ no_coefficient ts c h.1
 
 -- a term below all the places doesn't count
-pub drop_term : (j : ℕ) (ns : List Name) (g : Form) (t : Term) (ts : List Term) → t.column < j → HaveFactors j ns g (t ∷ ts) → HaveFactors j ns g ts
+drop_term : (j : ℕ) (ns : List Name) (g : Form) (t : Term) (ts : List Term) → t.column < j → HaveFactors j ns g (t ∷ ts) → HaveFactors j ns g ts
 drop_term j [] g t ts l h = tt
 drop_term j (n ∷ ns) g t ts l h = (
   sym (ap (λ b. cond b t.factor (coefficient ts j)) (other_column t.column j (λ e. absurd (omega (arith, e, l))))) ∙ h.0,
@@ -60,7 +60,7 @@ drop_term j (n ∷ ns) g t ts l h = (
 term_step : (a x s r : Number) → whole 0 ≡ a → s ≡ r → s ≡ a *ₙ x +ₙ r
 term_step a x s r e h = h ∙ by_ring (x ∷ r ∷ []) (v 1) (k 0 ⊗ v 0 ⊕ v 1) refl ∙ ap (λ y. y *ₙ x +ₙ r) e
 
-pub sum_places : (j : ℕ) (ns : List Name) (g : Form) (ts : List Term) (w : Assignment) (y : PlaceAssignment) → AreTerms ts → EachColumn (λ c. j ≤ c) ts → EachColumn (λ c. c < j + length ns) ts →
+sum_places : (j : ℕ) (ns : List Name) (g : Form) (ts : List Term) (w : Assignment) (y : PlaceAssignment) → AreTerms ts → EachColumn (λ c. j ≤ c) ts → EachColumn (λ c. c < j + length ns) ts →
     HaveFactors j ns g ts → Agree j ns w y → sum_of ts y ≡ form_sum ns g.factor w
 sum_places j [] g [] w y r l b h a = refl
 sum_places j [] g (t ∷ ts) w y r l b h a = absurd (omega (arith, l.0, b.0))

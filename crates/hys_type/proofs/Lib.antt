@@ -14,3 +14,4 @@ pub mod FormulaTruths
 pub mod SameBodies
 pub mod SameSteps
 pub mod ProgramNames
+pub mod ProgramForms
