@@ -15,3 +15,4 @@ pub mod SameBodies
 pub mod SameSteps
 pub mod ProgramNames
 pub mod ProgramForms
+pub mod ProgramBodies

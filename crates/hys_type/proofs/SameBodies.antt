@@ -174,7 +174,7 @@ the_difference ns x y p (inl h) = absurd (no_comparison binary.Equal h.0 refl)
 the_difference ns x y p (inr h) = (h.1, h.2)
 
 -- ---- the kind of an output
-some_kind : (k l : Kind) → Some k ≡ Some l → k ≡ l
+pub some_kind : (k l : Kind) → Some k ≡ Some l → k ≡ l
 some_kind k l e = ap (λ o. elim o as (λ o. Kind) [ Some x ↦ x | None ↦ k ]) e
 
 pub bool_output : (ns : List Name) (o : Option Name) (w : Assignment) (e : Tree) → kind_of o ≡ Some kind.Bool → IsOfName ns o e → IsFormula ns e × (output_value o w e ≡ bit (truth w e))
