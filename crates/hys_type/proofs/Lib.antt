@@ -16,3 +16,4 @@ pub mod SameSteps
 pub mod ProgramNames
 pub mod ProgramForms
 pub mod ProgramBodies
+pub mod ProgramWeight
