@@ -34,7 +34,7 @@ agree_places ns w = agree_from 0 ns w (by_places ns w) (λ j. ap (by_places ns w
 
 -- ---- by texts
 -- each text has its place, from k on
-abbrev Placed : ℕ → List Name → (List ℕ → ℕ) → Type 0
+abbrev pub Placed : ℕ → List Name → (List ℕ → ℕ) → Type 0
 Placed k [] f = Unit {0}
 Placed k (n ∷ ns) f = (f n.text ≡ k) × Placed (suc k) ns f
 
@@ -42,7 +42,7 @@ placed_later : (k : ℕ) (t : List ℕ) (ns : List Name) (f : List ℕ → ℕ) 
 placed_later k t [] f a h = tt
 placed_later k t (n ∷ ns) f a h = (ap (λ b. cond b 0 (suc (f n.text))) (other_text t n.text (λ e. a.0 (sym e))) ∙ ap suc h.0, placed_later (suc k) t ns f a.1 h.1)
 
-placed : (ns : List Name) → Differ (texts_of ns) → Placed 0 ns (place_in ns)
+pub placed : (ns : List Name) → Differ (texts_of ns) → Placed 0 ns (place_in ns)
 placed [] h = tt
 placed (n ∷ ns) h = (ap (λ b. cond b 0 (suc (place_in ns n.text))) (own_text n.text), placed_later 0 n.text ns (place_in ns) h.0 (placed ns h.1))
 

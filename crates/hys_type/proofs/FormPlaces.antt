@@ -19,7 +19,7 @@ use Rattle.hys_type.proofs.Agree.{Agree}
 use Rattle.hys_type.proofs.FormSums.{form_sum, form_number}
 
 -- ---- coefficients
-same_column : (c j : ℕ) → nat_eq c j ≡ true → c ≡ j
+pub same_column : (c j : ℕ) → nat_eq c j ≡ true → c ≡ j
 same_column c j e = eqb→eq c j (subst T (sym e) tt)
 
 pub other_column : (c j : ℕ) → ¬ (c ≡ j) → nat_eq c j ≡ false

@@ -17,3 +17,4 @@ pub mod ProgramNames
 pub mod ProgramForms
 pub mod ProgramBodies
 pub mod ProgramWeight
+pub mod ProgramItems

@@ -210,7 +210,7 @@ module _ (c : Setting) (o : Option Name) where
     sum_one connectives (tree.Binary binary.Equal y w p) ∙ node_weight binary.Equal (connectives y) (connectives w) refl (real_weight c.names y d.0) (real_weight c.names w d.1))
 
 -- ---- items
-left_kind_is : (ns : List Name) (n : Option (List ℕ)) → left_kind ns n ≡ kind_of (left ns n)
+pub left_kind_is : (ns : List Name) (n : Option (List ℕ)) → left_kind ns n ≡ kind_of (left ns n)
 left_kind_is ns (Some n) = refl
 left_kind_is ns None = refl
 

@@ -101,7 +101,7 @@ given_role : (s : Section) → program.is_given (role_in s) ≡ is_given s
 given_role s = ap₂ (λ (a b : Bool). a || b) (state_role s) (input_role s)
 
 -- ---- items
-left_declared : (s : Section) → IsTrue (suits s None) → ⊥
+pub left_declared : (s : Section) → IsTrue (suits s None) → ⊥
 left_declared section.State h = absurd (cc)
 left_declared section.Input h = absurd (cc)
 left_declared section.Output h = absurd (cc)
@@ -202,7 +202,7 @@ same_part u w v part role f k (d ∷ ds) (x ∷ xs) h a =
     go true e = ap₂ (λ y ys. y ∷ ys) a.0 e
     go false e = e
 
-own_values : (u : Assignment) (ds : List Decl) → HasParameters u (map (name_of u) ds)
+pub own_values : (u : Assignment) (ds : List Decl) → HasParameters u (map (name_of u) ds)
 own_values u [] = tt
 own_values u (d ∷ ds) = (λ t. refl, own_values u ds)
 
