@@ -1,11 +1,9 @@
 -- Assignments to texts and to places that give each declared name the same number.
-use Rattle.std.proofs.Common.{◌≡◌, ℕ, zero, suc, ◌+◌, List, [], ◌∷◌, Option, Some, None, Bool, true, false, map, cond, get_or, refl, sym, ◌∙◌, ap, subst, arith}
+use Rattle.std.proofs.Common.{◌≡◌, ℕ, zero, suc, ◌+◌, ◌<◌, List, [], ◌∷◌, Some, None, Bool, true, false, map, cond, get_or, length, refl, sym, ◌∙◌, ap, subst, arith}
 use Rattle.std.specs.Str.{bytes_eq}
-use Rattle.std.specs.List.{AllByRecursion, find}
-use Rattle.hys_number.specs.Number.{Number}
+use Rattle.std.specs.List.{AllByRecursion}
 use Rattle.hys_number.specs.Ops.{whole}
 use Rattle.hys_base.specs.Differ.{Apart, Differ}
-use Rattle.hys_lin.specs.Sums.{at}
 use Rattle.hys_lin.specs.Sums.{Assignment as PlaceAssignment}
 use Rattle.hys_meaning.specs.Values.{Assignment}
 use Rattle.hys_meaning.specs.Names.{Name, look}
@@ -75,3 +73,15 @@ found_name P (x ∷ ns) n m h e = go (bytes_eq x.text n) refl e (found_name P ns
     go : (b : Bool) → bytes_eq x.text n ≡ b → cond b (Some x) (look ns n) ≡ Some m → (look ns n ≡ Some m → P m × (m.text ≡ n)) → P m × (m.text ≡ n)
     go true i e f = let s : x ≡ m = some_name x m e in (subst P s h.0, sym (ap (λ (y : Name). y.text) s) ∙ same_text x.text n i)
     go false i e f = f e
+
+-- ---- there and back
+pub texts_again : (ns : List Name) (w : Assignment) (n : List ℕ) (m : Name) → look ns n ≡ Some m → by_texts ns (by_places ns w) n ≡ w n
+texts_again ns w n m h = at_place ns w (by_places ns w) n m (agree_places ns w) h
+
+placed_again : (j : ℕ) (ns : List Name) (f : List ℕ → ℕ) (v : PlaceAssignment) → Placed j ns f → (k i : ℕ) → i ≡ j + k → k < length ns → get_or (map (λ (n : Name). v (f n.text)) ns) k (whole 0) ≡ v i
+placed_again j [] f v h k i e l = absurd (omega (arith, l))
+placed_again j (n ∷ ns) f v h zero i e l = ap v (h.0 ∙ omega (arith, e))
+placed_again j (n ∷ ns) f v h (suc k) i e l = placed_again (suc j) ns f v h.1 k i (omega (arith, e)) (omega (arith, l))
+
+pub places_again : (ns : List Name) (v : PlaceAssignment) (k : ℕ) → Differ (texts_of ns) → k < length ns → by_places ns (by_texts ns v) k ≡ v k
+places_again ns v k d l = placed_again 0 ns (place_in ns) v (placed ns d) k k (omega arith) l

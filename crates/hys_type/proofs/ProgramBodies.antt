@@ -1,5 +1,5 @@
 -- The bodies of a program mention variables alone, and suit the names that they define.
-use Rattle.std.proofs.Common.{◌≡◌, ℕ, List, [], ◌∷◌, Option, Some, None, Bool, true, false, ◌&&◌, map, cond, refl, sym, ◌∙◌, ap, subst}
+use Rattle.std.proofs.Common.{◌≡◌, List, [], ◌∷◌, Option, Some, None, Bool, true, false, ◌&&◌, map, refl, sym, ◌∙◌, ap, subst}
 use Rattle.std.specs.Prelude.{IsTrue}
 use Rattle.std.specs.List.{AllByRecursion}
 use Rattle.std.proofs.Math.Path.{subst₂}
@@ -13,8 +13,8 @@ use Rattle.hys_ast.specs.declared.source.Kind.TheVariants as kind
 use Rattle.hys_ast.specs.declared.tree.BinaryOp.TheVariants as binary
 use Rattle.hys_ast.specs.Tree.{Tree, Decl, Shape}
 use Rattle.hys_ast.specs.Tree as tree
-use Rattle.hys_meaning.specs.Values.{Assignment, value}
-use Rattle.hys_meaning.specs.Names.{Name, name_of, look, is_parameter, is_state, is_output, is_auxiliary}
+use Rattle.hys_meaning.specs.Values.{Assignment}
+use Rattle.hys_meaning.specs.Names.{Name, name_of, look, is_state, is_output, is_auxiliary}
 use Rattle.hys_meaning.specs.Bodies.{body_in}
 use Rattle.hys_meaning.specs.Bodies as said
 use Rattle.hys_meaning.specs.Typed.{IsMaybe, IsTolerance, RightTyped, suits, settled, value_or_zero, is_demand, is_real, is_bool}
@@ -53,9 +53,9 @@ module _ (tolerance : Number) (u : Assignment) (ds : List Decl) (xs : List ProgN
 
   pub body_over : (o : Option Name) (s : said.Body) (b : Body) → IsBodyOf (scope tolerance u ds) (kind_of o) s b → Over o s b
   body_over o s b (guard {e} {t} {f} {eps} i j q z) = over_as o s (said.Guard e t) b (means.Guard f eps) i j (λ r.
-    (form_over u ds xs _ f a h (λ n m y k. no_guard_factor (map (name_of u) ds) n m y k e r.0) q, subst (λ (x : Number). whole 0 <ₙ x) (sym z) (positive_tolerance (map (name_of u) ds) tolerance u t a g l r.1)))
+      (form_over u ds xs _ f a h (λ n m y k. no_guard_factor (map (name_of u) ds) n m y k e r.0) q, subst (λ (x : Number). whole 0 <ₙ x) (sym z) (positive_tolerance (map (name_of u) ds) tolerance u t a g l r.1)))
   body_over o s b (choice {e = e} {h = x} {o = y} {l = w} {f = f} {g = q} i j z n p) = over_as o s (said.Choice e x y) b (means.Choice w f q) i j (λ r.
-    (formula_over u ds xs e w h r.0 z, form_over u ds xs _ f a h (λ n m y k. no_factor (map (name_of u) ds) n m y k x r.1) n, form_over u ds xs _ q a h (λ n m z k. no_else_factor (map (name_of u) ds) n m z k y r.2) p))
+      (formula_over u ds xs e w h r.0 z, form_over u ds xs _ f a h (λ n m y k. no_factor (map (name_of u) ds) n m y k x r.1) n, form_over u ds xs _ q a h (λ n m z k. no_else_factor (map (name_of u) ds) n m z k y r.2) p))
   body_over o s b (logic {e = e} {l = w} i j z) = over_as o s (said.Logic e) b (means.Logic w) i j (λ r. formula_over u ds xs e w h r z)
   body_over o s b (linear {e} {f} i j z) = over_as o s (said.Linear e) b (means.Linear f) i j (λ r. form_over u ds xs _ f a h (λ n m y k. no_factor (map (name_of u) ds) n m y k e r) z)
   body_over o s b (next_bool {e = e} {l = w} i j z) = over_as o s (said.NextBool e) b (means.NextBool w) i j (λ r. formula_over u ds xs e w h r z)
@@ -65,7 +65,7 @@ module _ (tolerance : Number) (u : Assignment) (ds : List Decl) (xs : List ProgN
   body_over o s b (must_hold {e = e} {l = w} y i j z) = over_as o s (said.Must e) b (means.MustHold w) i j (λ r. formula_over u ds xs e w h (the_formula (map (name_of u) ds) e y r) z)
   body_over o s b (must_most {e} {f} y i j z) = over_as o s (said.Must e) b (means.MustMost f) i j (λ r. form_over u ds xs _ f a h (λ n m q k. no_guard_factor (map (name_of u) ds) n m q k e (the_inequality (map (name_of u) ds) e y r)) z)
   body_over o s b (must_zero {x} {y} {p} {f} i j z) = over_as o s (said.Must (tree.Binary binary.Equal x y p)) b (means.MustZero f) i j (λ r.
-    let d = the_difference (map (name_of u) ds) x y p r in form_over u ds xs _ f a h (λ n m q k. no_difference_factor (map (name_of u) ds) n m q k x y d.0 d.1) z)
+      let d = the_difference (map (name_of u) ds) x y p r in form_over u ds xs _ f a h (λ n m q k. no_difference_factor (map (name_of u) ds) n m q k x y d.0 d.1) z)
 
 -- ---- items that demand
 abbrev is_demanding : said.Body → Bool

@@ -1,12 +1,11 @@
 -- A translation of a source that keeps the rules is a program.
-use Rattle.std.proofs.Common.{◌≡◌, ℕ, zero, suc, ◌+◌, List, [], ◌∷◌, ◌++◌, Option, Some, None, Bool, true, false, ◌||◌, ◌⊎◌, inl, inr, map, cond, eqb, refl, sym, ◌∙◌, ap, ap₂, subst, arith}
-use Rattle.std.specs.Prelude.{IsTrue, nat_eq}
+use Rattle.std.proofs.Common.{◌≡◌, ℕ, zero, suc, ◌+◌, List, [], ◌∷◌, ◌++◌, Option, Some, None, Bool, true, false, inl, inr, map, cond, eqb, refl, sym, ◌∙◌, ap, ap₂, subst, arith}
+use Rattle.std.specs.Prelude.{IsTrue}
 use Rattle.std.specs.Str.{bytes_eq}
 use Rattle.std.specs.List.{AllByRecursion, count_by}
 use Rattle.std.proofs.lemmas.List.Sums.{sum_by-cons}
 use Rattle.hys_number.specs.Number.{Number}
 use Rattle.hys_number.specs.Ops.{◌<ₙ◌, whole}
-use Rattle.hys_base.specs.Differ.{Differ}
 use Rattle.hys_ast.specs.declared.source.Section.{Section}
 use Rattle.hys_ast.specs.declared.source.Section.TheVariants as section
 use Rattle.hys_ast.specs.Tree.{Decl, Item, Source}
@@ -14,9 +13,8 @@ use Rattle.hys_meaning.specs.Values.{Assignment}
 use Rattle.hys_meaning.specs.Names.{Name, names, name_of, parameters, look}
 use Rattle.hys_meaning.specs.Bodies.{body}
 use Rattle.hys_meaning.specs.Typed.{DeclaredOnce, Typed, Bounded, HaveValues, DefinedOnce, ItemTyped, LeftTyped, RightTyped, left, suits, defines, is_defined}
-use Rattle.hys_meaning.specs.Unfolded.{Guard, guards, guard_decl, guard_name, unfolded}
+use Rattle.hys_meaning.specs.Unfolded.{Guard, guards, guard_decl, unfolded}
 use Rattle.hys_meaning.specs.Accepted.{KeepsRules}
-use Rattle.hys_prog.specs.declared.program.Body.{Body}
 use Rattle.hys_prog.specs.declared.program.Name.{Name as ProgName}
 use Rattle.hys_prog.specs.declared.program.ProgItem.{ProgItem}
 use Rattle.hys_prog.specs.declared.program.Program.{Program}
@@ -25,8 +23,7 @@ use Rattle.hys_prog.specs.Programs as program
 use Rattle.hys_type.specs.Translation.{place_in, place_if, role_in, IsNameOf, OneByOne, Setting, setting, IsBodyOf, IsItemOf, IsNamedTranslation, IsTranslation, left_kind, kind_of}
 use Rattle.hys_type.specs.Declaring.{declares, IsDeclaration}
 use Rattle.hys_type.proofs.KnownValues.{same_text, own_text, declared_texts, differ_texts}
-use Rattle.hys_type.proofs.Agree.{Placed, placed, texts_of}
-use Rattle.hys_type.proofs.FormSums.{HasParameters}
+use Rattle.hys_type.proofs.Agree.{Placed, placed}
 use Rattle.hys_type.proofs.FormPlaces.{same_column, own_column}
 use Rattle.hys_type.proofs.SameSteps.{left_declared, names_differ, own_values}
 use Rattle.hys_type.proofs.ProgramNames.{Ruled, all_ruled, parameter_bits, roles_kept, names_spelled, texts_differ, columns_weigh}
@@ -158,7 +155,7 @@ named_program tolerance s p h once values typed bounded defined spelled positive
     one_definition : (n : ℕ) → NameAt p.names n (λ x. program.is_defined x.role ≡ true) → definitions n p.items ≡ 1
     one_definition n x =
         let f : Found (parameters s.decls) (names s) (DefinedIn s.items) (λ x. program.is_defined x.role ≡ true) n =
-          at_decl (parameters s.decls) (names s) (DefinedIn s.items) (λ x. program.is_defined x.role ≡ true) 0 s.decls p.names h.names (defined_in s.items s.decls spelled defined) (placed (names s) (names_differ s once)) (look_own (names s) (names_differ s once)) n n (omega arith) x in
+        at_decl (parameters s.decls) (names s) (DefinedIn s.items) (λ x. program.is_defined x.role ≡ true) 0 s.decls p.names h.names (defined_in s.items s.decls spelled defined) (placed (names s) (names_differ s once)) (look_own (names s) (names_differ s once)) n n (omega arith) x in
         same_count (setting tolerance s) n f.decl.name (name_of (parameters s.decls) f.decl) f.place f.found s.items p.items h.items typed.items
         ∙ f.ruled.1 (defined_role f.decl.section f.ruled.0 (ap program.is_defined (sym f.is.role) ∙ f.has))
 

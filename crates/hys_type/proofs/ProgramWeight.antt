@@ -1,5 +1,5 @@
 -- A translation weighs what its source weighs.
-use Rattle.std.proofs.Common.{◌≡◌, ℕ, suc, ◌+◌, List, [], ◌∷◌, ◌++◌, Option, Some, None, Bool, true, false, map, cond, refl, sym, ◌∙◌, ap, ap₂, subst, arith}
+use Rattle.std.proofs.Common.{◌≡◌, ℕ, ◌+◌, List, [], ◌∷◌, ◌++◌, Option, Some, None, Bool, true, false, cond, refl, sym, ◌∙◌, ap, ap₂, subst, arith}
 use Rattle.std.specs.Prelude.{IsTrue}
 use Rattle.std.specs.List.{AllByRecursion, sum_by}
 use Rattle.std.proofs.Math.Path.{subst₂}
@@ -7,7 +7,6 @@ use Rattle.std.proofs.lemmas.List.Sums.{sum_by-cons}
 use Rattle.hys_lin.specs.Bits.{is_one}
 use Rattle.hys_ast.specs.declared.source.Section.{Section}
 use Rattle.hys_ast.specs.declared.source.Section.TheVariants as section
-use Rattle.hys_ast.specs.declared.source.Kind.{Kind}
 use Rattle.hys_ast.specs.declared.tree.UnaryOp.{UnaryOp}
 use Rattle.hys_ast.specs.declared.tree.UnaryOp.TheVariants as unary
 use Rattle.hys_ast.specs.declared.tree.BinaryOp.{BinaryOp}
@@ -19,7 +18,7 @@ use Rattle.hys_meaning.specs.Names.{Name, look, is_parameter}
 use Rattle.hys_meaning.specs.Forms.{Form, form, Folds}
 use Rattle.hys_meaning.specs.Bodies.{body, body_in}
 use Rattle.hys_meaning.specs.Bodies as said
-use Rattle.hys_meaning.specs.Typed.{IsReal, IsFormula, IsComparison, IsMaybe, IsTolerance, RightTyped, ItemTyped, left, only_parameters, is_connective, is_comparison, is_negation, is_demand}
+use Rattle.hys_meaning.specs.Typed.{IsReal, IsFormula, IsComparison, RightTyped, ItemTyped, left, only_parameters, is_connective, is_negation, is_demand}
 use Rattle.hys_meaning.specs.Unfolded.{is_inequality}
 use Rattle.hys_meaning.specs.Weight.{connectives, item_weight}
 use Rattle.hys_formula.specs.declared.formula.Formula.{Formula}
@@ -206,8 +205,8 @@ module _ (c : Setting) (o : Option Name) where
   body_weighs s b (must_hold {e = y} {l = l} k i j z) = weighs_as s (said.Must y) b (means.MustHold l) i j (λ r. formula_weighs y l (the_formula c.names y k r) z)
   body_weighs s b (must_most {e = y} {f = f} k i j z) = weighs_as s (said.Must y) b (means.MustMost f) i j (λ r. sum_one connectives y ∙ guard_weight c.names y (the_inequality c.names y k r))
   body_weighs s b (must_zero {x = y} {y = w} {p = p} {f = f} i j z) = weighs_as s (said.Must (tree.Binary binary.Equal y w p)) b (means.MustZero f) i j (λ r.
-    let d = the_difference c.names y w p r in
-    sum_one connectives (tree.Binary binary.Equal y w p) ∙ node_weight binary.Equal (connectives y) (connectives w) refl (real_weight c.names y d.0) (real_weight c.names w d.1))
+      let d = the_difference c.names y w p r in
+      sum_one connectives (tree.Binary binary.Equal y w p) ∙ node_weight binary.Equal (connectives y) (connectives w) refl (real_weight c.names y d.0) (real_weight c.names w d.1))
 
 -- ---- items
 pub left_kind_is : (ns : List Name) (n : Option (List ℕ)) → left_kind ns n ≡ kind_of (left ns n)
@@ -218,7 +217,7 @@ one_item : (c : Setting) (i : Item) (t : ProgItem) → IsItemOf c i t → ItemTy
 one_item c i t h r =
     let m : is_must t.body ≡ is_demand i.section = must_is c (left_kind c.names i.name) (left c.names i.name) i.section i.shape t.body r.1 h.body in
     let w : sum_by connectives (shape_expressions i.shape) ≡ body_connectives t.body =
-      ap (sum_by connectives) (same_expressions c.names (left c.names i.name) i.section i.shape r.1) ∙ body_weighs c (left c.names i.name) (body i) t.body (subst (λ k. IsBodyOf c k (body i) t.body) (left_kind_is c.names i.name) h.body) r.1 in
+    ap (sum_by connectives) (same_expressions c.names (left c.names i.name) i.section i.shape r.1) ∙ body_weighs c (left c.names i.name) (body i) t.body (subst (λ k. IsBodyOf c k (body i) t.body) (left_kind_is c.names i.name) h.body) r.1 in
     ap₂ (λ (b : Bool) (n : ℕ). cond b 1 0 + n) (sym m) w ∙ omega arith
 
 pub items_weigh : (c : Setting) (xs : List Item) (ts : List ProgItem) → OneByOne (IsItemOf c) xs ts → AllByRecursion (ItemTyped c.names) xs → sum_by item_weight xs ≡ items_weight ts

@@ -1,5 +1,5 @@
 -- A step of a source by texts is a step of its program by places, and the other way round.
-use Rattle.std.proofs.Common.{◌≡◌, ℕ, zero, suc, List, [], ◌∷◌, Option, Some, None, Bool, true, false, ◌||◌, ◌↔◌, map, cond, refl, sym, ◌∙◌, ap, ap₂, subst}
+use Rattle.std.proofs.Common.{◌≡◌, ℕ, suc, List, [], ◌∷◌, Option, Some, None, Bool, true, false, ◌||◌, ◌↔◌, map, cond, refl, sym, ◌∙◌, ap, ap₂, subst}
 use Rattle.std.specs.Prelude.{IsTrue, filter}
 use Rattle.std.specs.List.{AllByRecursion}
 use Rattle.std.proofs.Math.Path.{subst₂}
@@ -7,7 +7,6 @@ use Rattle.hys_number.specs.Number.{Number}
 use Rattle.hys_number.specs.Ops.{◌≤ₙ◌}
 use Rattle.hys_base.specs.Differ.{Differ}
 use Rattle.hys_lin.specs.Bits.{IsBit}
-use Rattle.hys_lin.specs.Sums.{Within}
 use Rattle.hys_lin.specs.Sums.{Assignment as PlaceAssignment}
 use Rattle.hys_ast.specs.declared.source.Section.{Section}
 use Rattle.hys_ast.specs.declared.source.Section.TheVariants as section
@@ -17,13 +16,11 @@ use Rattle.hys_ast.specs.Tree.{Decl, Item, Source}
 use Rattle.hys_meaning.specs.Values.{Assignment}
 use Rattle.hys_meaning.specs.Names.{Name, names, name_of, parameters, look, texts, is_state, is_input, is_output, is_parameter}
 use Rattle.hys_meaning.specs.Bodies.{body}
-use Rattle.hys_meaning.specs.Bodies as said
-use Rattle.hys_meaning.specs.Typed.{differ, DeclaredOnce, Typed, ItemTyped, LeftTyped, RightTyped, left, suits}
+use Rattle.hys_meaning.specs.Typed.{DeclaredOnce, Typed, ItemTyped, LeftTyped, RightTyped, left, suits}
 use Rattle.hys_meaning.specs.Steps.{is_given}
 use Rattle.hys_meaning.specs.Steps as source
 use Rattle.hys_prog.specs.declared.program.Role.{Role}
 use Rattle.hys_prog.specs.declared.program.Name.{Name as ProgName}
-use Rattle.hys_prog.specs.declared.program.Body.{Body}
 use Rattle.hys_prog.specs.declared.program.ProgItem.{ProgItem}
 use Rattle.hys_prog.specs.declared.program.Program.{Program}
 use Rattle.hys_prog.specs.Programs.{EachItem}
@@ -294,8 +291,23 @@ module _ (tolerance : Number) (s : Source) (p : Program) (h : IsNamedTranslation
         no_gap = (gaps_same w v a q.parameters).1 t.no_gap;
       }
 
-  pub legal_by_places : (w : Assignment) (x y x' z : List Number) → source.Legal tolerance s x y w x' z → program.Legal p x y (by_places (names s) w) x' z
-  legal_by_places w x y x' z t = legal_there w (by_places (names s) w) x y x' z (agree_places (names s) w) t
+  -- ---- with the numbers by places, and by texts
+  pub step_places : (w : Assignment) (x y x' z : List Number) → source.Step s x y w x' z ↔ program.Step p x y (by_places (names s) w) x' z
+  step_places w x y x' z =
+      let a : Agree 0 (names s) w (by_places (names s) w) = agree_places (names s) w in
+      (step_there w (by_places (names s) w) x y x' z a, step_back w (by_places (names s) w) x y x' z a)
 
-  pub legal_by_texts : (v : PlaceAssignment) (x y x' z : List Number) → program.Legal p x y v x' z → source.Legal tolerance s x y (by_texts (names s) v) x' z
-  legal_by_texts v x y x' z t = legal_back (by_texts (names s) v) v x y x' z (agree_texts (names s) v (names_differ s once)) t
+  pub step_texts : (v : PlaceAssignment) (x y x' z : List Number) → program.Step p x y v x' z ↔ source.Step s x y (by_texts (names s) v) x' z
+  step_texts v x y x' z =
+      let a : Agree 0 (names s) (by_texts (names s) v) v = agree_texts (names s) v (names_differ s once) in
+      (step_back (by_texts (names s) v) v x y x' z a, step_there (by_texts (names s) v) v x y x' z a)
+
+  pub legal_places : (w : Assignment) (x y x' z : List Number) → source.Legal tolerance s x y w x' z ↔ program.Legal p x y (by_places (names s) w) x' z
+  legal_places w x y x' z =
+      let a : Agree 0 (names s) w (by_places (names s) w) = agree_places (names s) w in
+      (legal_there w (by_places (names s) w) x y x' z a, legal_back w (by_places (names s) w) x y x' z a)
+
+  pub legal_texts : (v : PlaceAssignment) (x y x' z : List Number) → program.Legal p x y v x' z ↔ source.Legal tolerance s x y (by_texts (names s) v) x' z
+  legal_texts v x y x' z =
+      let a : Agree 0 (names s) (by_texts (names s) v) v = agree_texts (names s) v (names_differ s once) in
+      (legal_back (by_texts (names s) v) v x y x' z a, legal_there (by_texts (names s) v) v x y x' z a)

@@ -1,7 +1,11 @@
 //! What holds of the definitions, as calls that do nothing.
 
-ghost use Rattle.std.specs.Prelude.{◌≡◌, List, [], ◌∷◌, Some, None, true, codes};
-ghost use Rattle.hys_meaning.specs.Names.{Name};
+ghost use Rattle.std.specs.Prelude.{◌≡◌, ◌<◌, ◌↔◌, ℕ, List, [], ◌∷◌, Some, None, true, codes, length};
+ghost use Rattle.std.specs.List.{AllByRecursion};
+ghost use Rattle.hys_number.specs.Ops.{◌<ₙ◌, whole};
+ghost use Rattle.hys_meaning.specs.Accepted.{KeepsRules};
+ghost use Rattle.hys_prog.specs.Programs.{IsProgram};
+ghost use Rattle.hys_type.specs.Declaring.{IsDeclaration};
 ghost use Rattle.hys_meaning.specs.Forms.{Form};
 ghost use Rattle.hys_meaning.specs.Folding.{each, matched};
 ghost use Rattle.hys_lin.specs.declared.lost.Op.{Op};
@@ -11,7 +15,7 @@ ghost use Rattle.hys_number.specs.Number.{Number};
 ghost use Rattle.hys_lin.specs.Sums.{Assignment as PlaceAssignment};
 ghost use Rattle.hys_ast.specs.Tree.{Source};
 ghost use Rattle.hys_meaning.specs.Values.{Assignment};
-ghost use Rattle.hys_meaning.specs.Names.{names};
+ghost use Rattle.hys_meaning.specs.Names.{Name, names, look};
 ghost use Rattle.hys_meaning.specs.Typed.{DeclaredOnce, Typed};
 ghost use Rattle.hys_meaning.specs.Unfolded.{unfolded};
 ghost use Rattle.hys_meaning.specs.Steps as source_steps;
@@ -48,12 +52,25 @@ pub fn first_faults()
     ensures defined_twice { fault_of (source (state (zero_at 2) (ten_at 3) ∷ []) (next (zero_at 6) ∷ next (zero_at 7) ∷ [])) ≡ Some (fault.DefinedTwice (spot 5)) }
 {}
 
-/// A program that is the translation of a source has its meaning: the legal steps of the one are
-/// those of the other, with the numbers of the declared names by their texts in the source and by
-/// their places in the program.
+/// A program that is the translation of a source has its meaning: its steps and its legal steps are
+/// those of the source, where an assignment gives a number to each declared name, in the source by
+/// its text and in the program by its place. Going from one to the other and back keeps the number
+/// of each declared name.
 pub fn same_meaning()
-    ensures by_places { (tolerance : Number) (s : Source) (p : Program) → IsTranslation tolerance s p → DeclaredOnce (unfolded s) → Typed (unfolded s) → (x u : List Number) (w : Assignment) (x' y : List Number) →
-        source_steps.Legal tolerance (unfolded s) x u w x' y → program_steps.Legal p x u (by_places (names (unfolded s)) w) x' y }
-    ensures by_texts { (tolerance : Number) (s : Source) (p : Program) → IsTranslation tolerance s p → DeclaredOnce (unfolded s) → Typed (unfolded s) → (x u : List Number) (v : PlaceAssignment) (x' y : List Number) →
-        program_steps.Legal p x u v x' y → source_steps.Legal tolerance (unfolded s) x u (by_texts (names (unfolded s)) v) x' y }
+    ensures texts_again { (s : Source) (w : Assignment) (n : List ℕ) (m : Name) → look (names s) n ≡ Some m → by_texts (names s) (by_places (names s) w) n ≡ w n }
+    ensures places_again { (s : Source) (v : PlaceAssignment) (k : ℕ) → DeclaredOnce s → k < length (names s) → by_places (names s) (by_texts (names s) v) k ≡ v k }
+    ensures steps_by_places { (tolerance : Number) (s : Source) (p : Program) → IsTranslation tolerance s p → DeclaredOnce (unfolded s) → Typed (unfolded s) → (x u : List Number) (w : Assignment) (x' y : List Number) →
+        (source_steps.Step (unfolded s) x u w x' y ↔ program_steps.Step p x u (by_places (names (unfolded s)) w) x' y) }
+    ensures steps_by_texts { (tolerance : Number) (s : Source) (p : Program) → IsTranslation tolerance s p → DeclaredOnce (unfolded s) → Typed (unfolded s) → (x u : List Number) (v : PlaceAssignment) (x' y : List Number) →
+        (program_steps.Step p x u v x' y ↔ source_steps.Step (unfolded s) x u (by_texts (names (unfolded s)) v) x' y) }
+    ensures legal_by_places { (tolerance : Number) (s : Source) (p : Program) → IsTranslation tolerance s p → DeclaredOnce (unfolded s) → Typed (unfolded s) → (x u : List Number) (w : Assignment) (x' y : List Number) →
+        (source_steps.Legal tolerance (unfolded s) x u w x' y ↔ program_steps.Legal p x u (by_places (names (unfolded s)) w) x' y) }
+    ensures legal_by_texts { (tolerance : Number) (s : Source) (p : Program) → IsTranslation tolerance s p → DeclaredOnce (unfolded s) → Typed (unfolded s) → (x u : List Number) (v : PlaceAssignment) (x' y : List Number) →
+        (program_steps.Legal p x u v x' y ↔ source_steps.Legal tolerance (unfolded s) x u (by_texts (names (unfolded s)) v) x' y) }
+{}
+
+/// The translation of a source that keeps the rules is a program, where the declarations of the
+/// source are as they are read from a text and the tolerance is above 0.
+pub fn translations_are_programs()
+    ensures { (tolerance : Number) (s : Source) (p : Program) → IsTranslation tolerance s p → KeepsRules (unfolded s) → AllByRecursion IsDeclaration s.decls → whole 0 <ₙ tolerance → IsProgram p }
 {}
