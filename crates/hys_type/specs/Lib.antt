@@ -10,3 +10,4 @@ pub mod Examples
 pub mod Translation
 pub mod Views
 pub mod Declaring
+pub mod SameMeaning

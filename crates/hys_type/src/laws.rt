@@ -1,6 +1,6 @@
 //! What holds of the definitions, as calls that do nothing.
 
-ghost use Rattle.std.specs.Prelude.{◌≡◌, ◌<◌, ◌↔◌, ℕ, List, [], ◌∷◌, Some, None, true, codes, length};
+ghost use Rattle.std.specs.Prelude.{◌≡◌, ◌<◌, ℕ, List, [], ◌∷◌, Some, None, true, codes, length};
 ghost use Rattle.std.specs.List.{AllByRecursion};
 ghost use Rattle.hys_number.specs.Ops.{◌<ₙ◌, whole};
 ghost use Rattle.hys_meaning.specs.Accepted.{KeepsRules};
@@ -16,13 +16,12 @@ ghost use Rattle.hys_lin.specs.Sums.{Assignment as PlaceAssignment};
 ghost use Rattle.hys_ast.specs.Tree.{Source};
 ghost use Rattle.hys_meaning.specs.Values.{Assignment};
 ghost use Rattle.hys_meaning.specs.Names.{Name, names, look};
-ghost use Rattle.hys_meaning.specs.Typed.{DeclaredOnce, Typed};
+ghost use Rattle.hys_meaning.specs.Typed.{DeclaredOnce};
 ghost use Rattle.hys_meaning.specs.Unfolded.{unfolded};
-ghost use Rattle.hys_meaning.specs.Steps as source_steps;
 ghost use Rattle.hys_prog.specs.declared.program.Program.{Program};
-ghost use Rattle.hys_prog.specs.Steps as program_steps;
 ghost use Rattle.hys_type.specs.Translation.{IsTranslation};
 ghost use Rattle.hys_type.specs.Views.{by_places, by_texts};
+ghost use Rattle.hys_type.specs.SameMeaning.{Translates, StepsByPlaces, StepsByTexts, LegalByPlaces, LegalByTexts};
 ghost use Rattle.hys_type.specs.Checks.{fault_of};
 ghost use Rattle.hys_type.specs.Examples.{spot, name, zero_at, ten_at, state, output, next, source, stepping};
 ghost use Rattle.hys_type.specs.declared.fault.TypeFault.TheVariants as fault;
@@ -59,14 +58,10 @@ pub fn first_faults()
 pub fn same_meaning()
     ensures texts_again { (s : Source) (w : Assignment) (n : List ℕ) (m : Name) → look (names s) n ≡ Some m → by_texts (names s) (by_places (names s) w) n ≡ w n }
     ensures places_again { (s : Source) (v : PlaceAssignment) (k : ℕ) → DeclaredOnce s → k < length (names s) → by_places (names s) (by_texts (names s) v) k ≡ v k }
-    ensures steps_by_places { (tolerance : Number) (s : Source) (p : Program) → IsTranslation tolerance s p → DeclaredOnce (unfolded s) → Typed (unfolded s) → (x u : List Number) (w : Assignment) (x' y : List Number) →
-        (source_steps.Step (unfolded s) x u w x' y ↔ program_steps.Step p x u (by_places (names (unfolded s)) w) x' y) }
-    ensures steps_by_texts { (tolerance : Number) (s : Source) (p : Program) → IsTranslation tolerance s p → DeclaredOnce (unfolded s) → Typed (unfolded s) → (x u : List Number) (v : PlaceAssignment) (x' y : List Number) →
-        (program_steps.Step p x u v x' y ↔ source_steps.Step (unfolded s) x u (by_texts (names (unfolded s)) v) x' y) }
-    ensures legal_by_places { (tolerance : Number) (s : Source) (p : Program) → IsTranslation tolerance s p → DeclaredOnce (unfolded s) → Typed (unfolded s) → (x u : List Number) (w : Assignment) (x' y : List Number) →
-        (source_steps.Legal tolerance (unfolded s) x u w x' y ↔ program_steps.Legal p x u (by_places (names (unfolded s)) w) x' y) }
-    ensures legal_by_texts { (tolerance : Number) (s : Source) (p : Program) → IsTranslation tolerance s p → DeclaredOnce (unfolded s) → Typed (unfolded s) → (x u : List Number) (v : PlaceAssignment) (x' y : List Number) →
-        (program_steps.Legal p x u v x' y ↔ source_steps.Legal tolerance (unfolded s) x u (by_texts (names (unfolded s)) v) x' y) }
+    ensures steps_by_places { (tolerance : Number) (s : Source) (p : Program) → Translates tolerance s p → StepsByPlaces (unfolded s) p }
+    ensures steps_by_texts { (tolerance : Number) (s : Source) (p : Program) → Translates tolerance s p → StepsByTexts (unfolded s) p }
+    ensures legal_by_places { (tolerance : Number) (s : Source) (p : Program) → Translates tolerance s p → LegalByPlaces tolerance (unfolded s) p }
+    ensures legal_by_texts { (tolerance : Number) (s : Source) (p : Program) → Translates tolerance s p → LegalByTexts tolerance (unfolded s) p }
 {}
 
 /// The translation of a source that keeps the rules is a program, where the declarations of the

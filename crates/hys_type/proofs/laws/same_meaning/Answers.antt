@@ -11,13 +11,13 @@ pub returns-clause-places_again : goal.returns-clause-places_again
 returns-clause-places_again c = λ s v k d l. places_again (names s) v k (names_differ s d) l
 
 pub returns-clause-steps_by_places : goal.returns-clause-steps_by_places
-returns-clause-steps_by_places c = λ tolerance s p h once typed x u w x' y. step_places tolerance (unfolded s) p h once typed w x u x' y
+returns-clause-steps_by_places c = λ tolerance s p h x u w x' y. step_places tolerance (unfolded s) p h.translation h.once h.typed w x u x' y
 
 pub returns-clause-steps_by_texts : goal.returns-clause-steps_by_texts
-returns-clause-steps_by_texts c = λ tolerance s p h once typed x u v x' y. step_texts tolerance (unfolded s) p h once typed v x u x' y
+returns-clause-steps_by_texts c = λ tolerance s p h x u v x' y. step_texts tolerance (unfolded s) p h.translation h.once h.typed v x u x' y
 
 pub returns-clause-legal_by_places : goal.returns-clause-legal_by_places
-returns-clause-legal_by_places c = λ tolerance s p h once typed x u w x' y. legal_places tolerance (unfolded s) p h once typed w x u x' y
+returns-clause-legal_by_places c = λ tolerance s p h x u w x' y. legal_places tolerance (unfolded s) p h.translation h.once h.typed w x u x' y
 
 pub returns-clause-legal_by_texts : goal.returns-clause-legal_by_texts
-returns-clause-legal_by_texts c = λ tolerance s p h once typed x u v x' y. legal_texts tolerance (unfolded s) p h once typed v x u x' y
+returns-clause-legal_by_texts c = λ tolerance s p h x u v x' y. legal_texts tolerance (unfolded s) p h.translation h.once h.typed v x u x' y
