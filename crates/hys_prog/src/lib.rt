@@ -2,6 +2,7 @@
 #![tactic(auto)]
 
 mod definition;
+pub mod examples;
 pub mod laws;
 mod program;
 
