@@ -9,3 +9,6 @@ mod ranges;
 pub use along::bounds;
 pub use fault::BoundFault;
 pub use ranges::interval_of;
+
+#[cfg(test)]
+mod tests;

@@ -1,4 +1,5 @@
 pub mod Smallest
+pub mod Crossed
 pub mod Defined
 pub mod Names
 pub mod Members

@@ -3,6 +3,7 @@
 
 mod along;
 mod definition;
+pub mod examples;
 mod given;
 pub mod laws;
 mod number;
