@@ -1,7 +1,7 @@
 -- The stops of a step over its assignment, and legal steps.
 use Rattle.std.proofs.Common.{◌≡◌, ℕ, zero, suc, ◌+◌, ◌<◌, List, [], ◌∷◌, ◌++◌, Option, Some, None, Bool, true, false, cond, map, length, get_or, refl, sym, ◌∙◌, ap, ap₂, subst, arith, inl, inr, ◌⊎◌, ◌||◌, Result, Ok, Err}
 use Rattle.std.proofs.lemmas.List.{append_assoc}
-use Rattle.std.specs.Prelude.{IsTrue, IfOk}
+use Rattle.std.specs.Prelude.{IsTrue, IfOk, ◌↔◌}
 use Rattle.hys_number.specs.Number.{Number}
 use Rattle.hys_number.specs.Ops.{whole, fits, ◌≤ₙ◌, ◌<ₙ◌}
 use Rattle.hys_number.proofs.Order.{lt_of_le-lt, lt_of_lt-le, lt_irrefl}
@@ -22,15 +22,15 @@ use Rattle.hys_prog.specs.declared.stop.Stop.{Stop}
 use Rattle.hys_prog.specs.declared.stop.Stop.TheVariants.{Bounds, Gap, Must, Range}
 use Rattle.hys_prog.specs.declared.stop.StepFault.{StepFault}
 use Rattle.hys_prog.specs.declared.stop.Stepped.{Stepped}
-use Rattle.hys_prog.specs.Programs.{IsProgram, EachItem, NameAt, Named, Suits, IsVariable, has_column, is_named, is_must}
+use Rattle.hys_prog.specs.Programs.{IsProgram, EachItem, NameAt, Named, Suits, IsVariable, has_column, is_named, is_must, is_defined, definitions}
 use Rattle.hys_prog.specs.Steps.{places, places_from, is_auxiliary, is_state, is_output, is_input, is_given, InBox, InGap, GapAt, Demand, DemandOf, Next, NextOf, OfName, EachNameFrom, Step, Legal}
 use Rattle.hys_prog.specs.Orders.{IsOrder, IsIn}
 use Rattle.hys_prog.specs.Places.{Defines}
-use Rattle.hys_prog.specs.Stops.{Check, IsValued, Judged, first_stop, at_most, equals, in_box, one, no_gap, fitting, form_fits, body_checks, boxes_from, checks_of, checks_along, demands_from, stops, number_of, number_in, numbers_in, Keeps, IsLawful, IsStepped}
+use Rattle.hys_prog.specs.Stops.{Check, IsValued, Judged, first_stop, at_most, equals, in_box, one, no_gap, fitting, form_fits, body_checks, boxes_from, checks_of, checks_along, demands_from, stops, number_of, number_in, numbers_in, Keeps, IsLawful, IsStepped, IsMet, AllFit}
 use Rattle.hys_prog.specs.Walk.{Gives, found_checks, started, exact, walk_checks, given_checks, after_checks}
 use Rattle.hys_prog.proofs.Defined.{at_item, each_at, some_named}
 use Rattle.hys_prog.proofs.Deciding.{most_yes, yes_most, equal_yes, yes_equal, or_parts, or_left, or_right, box_yes, yes_box, sides}
-use Rattle.hys_prog.proofs.Placing.{name_map, first_at, in_part}
+use Rattle.hys_prog.proofs.Placing.{name_map, first_at, in_part, state_defined, output_defined}
 use Rattle.hys_prog.proofs.Walking.{first_number, checks_here, started_count}
 use Rattle.hys_prog.proofs.Reading.{AllRead, Same, same_along, same_demands, same_numbers, all_read, named_suits}
 use Rattle.hys_prog.proofs.Assigning.{is_fixed, Is, Follows, found_same, in_order}
@@ -379,3 +379,113 @@ walk_stepped p o x u (Ok s) h q l m g j =
     let z = subst (λ (cs : List Check). first_stop cs ≡ None) (walk_stops p o x u w h q v) j in
     let y = lawful_legal p o x u w h q v (none_lawful (stops p o w) z) in
     record { values = w; legal = rw (g.next, g.outputs) y; aux = g.aux }
+
+-- ---- no check fails
+lawful_fit : (cs : List Check) → first_stop cs ≡ None → AllFit cs
+lawful_fit [] e = tt
+lawful_fit (c ∷ cs) e = go c.passes e (lawful_fit cs)
+  where
+    holds : (s : Stop) → IsMet true s
+    holds (Bounds n) = tt
+    holds (Gap k) = tt
+    holds (Must k) = tt
+    holds (Range k l) = refl
+
+    go : (b : Bool) → cond b (first_stop cs) (Some c.stop) ≡ None → (first_stop cs ≡ None → AllFit cs) → IsMet b c.stop × AllFit cs
+    go true e f = (holds c.stop, f e)
+    go false e f = absurd (cc)
+
+fit_none : (cs : List Check) → IsLawful cs → AllFit cs → first_stop cs ≡ None
+fit_none [] h k = refl
+fit_none (c ∷ cs) h k = rw (go c.passes c.stop h.0 k.0) (fit_none cs h.1 k.1)
+  where
+    go : (b : Bool) (s : Stop) → Keeps b s → IsMet b s → b ≡ true
+    go b (Bounds n) h k = h
+    go b (Gap i) h k = h
+    go b (Must i) h k = h
+    go b (Range i l) h k = k
+
+pub none_fails : (cs : List Check) → (first_stop cs ≡ None) ↔ (IsLawful cs × AllFit cs)
+none_fails cs = (λ e. (none_lawful cs e, lawful_fit cs e), λ h. fit_none cs h.0 h.1)
+
+-- ---- the next values and the outputs of a step
+not_aux : (r : Role) → r ≡ Aux → is_auxiliary r ≡ false → ⊥
+not_aux r e f = let q = rw e at f in absurd (cc)
+
+next_number : (w after : Assignment) (n : ℕ) (b : Body) (x : Name) → Suits b x → is_auxiliary x.role ≡ false → Next w after n b → after n ≡ number_of w b
+next_number w after n (Guard f e) x s a h = absurd (not_aux x.role s.0 a)
+next_number w after n (Choice l c d) x s a h = absurd (not_aux x.role s.0 a)
+next_number w after n (Logic l) x s a h = absurd (not_aux x.role s.0 a)
+next_number w after n (Linear f) x s a h = absurd (not_aux x.role s.0 a)
+next_number w after n (NextBool l) x s a h = h
+next_number w after n (NextReal f) x s a h = h
+next_number w after n (OutBool l) x s a h = h
+next_number w after n (OutReal f) x s a h = h
+next_number w after n (MustHold l) x s a h = absurd s
+next_number w after n (MustMost f) x s a h = absurd s
+next_number w after n (MustZero f) x s a h = absurd s
+
+suits_both : (Q : Name → Type 0) (xs : List Name) (n : ℕ) (b : Body) → NameAt xs n (Suits b) → NameAt xs n Q → (x : Name) × Suits b x × Q x
+suits_both Q [] n b h a = absurd h
+suits_both Q (x ∷ xs) zero b h a = (x, h, a)
+suits_both Q (x ∷ xs) (suc n) b h a = suits_both Q xs n b h a
+
+next_of : (w after : Assignment) (n : ℕ) (o : Option ℕ) (b : Body) → o ≡ Some n → OfName (λ m. Next w after m b) o → Next w after n b
+next_of w after n None b e h = absurd (cc)
+next_of w after n (Some m) b e h = let q : m ≡ n = cc in subst (λ (i : ℕ). Next w after i b) q h
+
+next_in : (names : List Name) (w after : Assignment) (n : ℕ) (ts : List ProgItem) → EachItem (NextOf w after) ts → EachItem (λ t. Named names t.name t.body) ts → NameAt names n (λ x. is_auxiliary x.role ≡ false) → definitions n ts ≡ 1 → after n ≡ number_in w n ts
+next_in names w after n [] h k a d = absurd (omega arith)
+next_in names w after n (t ∷ ts) h k a d = go (is_named n t.name) refl d (λ e. next_in names w after n ts h.1 k.1 a e)
+  where
+    go : (b : Bool) → is_named n t.name ≡ b → cond b 1 0 + definitions n ts ≡ 1 → (definitions n ts ≡ 1 → after n ≡ number_in w n ts) → after n ≡ cond b (number_of w t.body) (number_in w n ts)
+    go true e d f =
+        let q = some_named n t.name e in
+        let s = suits_both (λ (x : Name). is_auxiliary x.role ≡ false) names n t.body (named_suits names n t.name t.body q k.0) a in
+        next_number w after n t.body s.0 s.1 s.2 (next_of w after n t.name t.body q h.0)
+    go false e d f = f (omega arith)
+
+state_other : (r : Role) → is_state r ≡ true → is_auxiliary r ≡ false
+state_other State e = refl
+state_other Input e = refl
+state_other Output e = refl
+state_other Parameter e = refl
+state_other Aux e = absurd (cc)
+
+output_other : (r : Role) → is_output r ≡ true → is_auxiliary r ≡ false
+output_other State e = refl
+output_other Input e = refl
+output_other Output e = refl
+output_other Parameter e = refl
+output_other Aux e = absurd (cc)
+
+after_numbers : (part : Role → Bool) (p : Program) (w after : Assignment) → ((r : Role) → part r ≡ true → is_auxiliary r ≡ false) → ((r : Role) → part r ≡ true → is_defined r ≡ true) → IsProgram p → EachItem (NextOf w after) p.items →
+    (ns : List ℕ) → ((n : ℕ) → IsIn n ns → NameAt p.names n (λ x. part x.role ≡ true)) → map after ns ≡ numbers_in w p.items ns
+after_numbers part p w after d e h k [] f = refl
+after_numbers part p w after d e h k (n ∷ ns) f =
+    let i = f n (inl refl) in
+    let g = next_in p.names w after n p.items k h.named (name_map (λ (x : Name). part x.role ≡ true) (λ (x : Name). is_auxiliary x.role ≡ false) p.names n (λ x q. d x.role q) i) (h.once n (name_map (λ (x : Name). part x.role ≡ true) (λ (x : Name). is_defined x.role ≡ true) p.names n (λ x q. e x.role q) i)) in
+    ap₂ (λ (a : Number) (xs : List Number). a ∷ xs) g (after_numbers part p w after d e h k ns (λ m j. f m (inr j)))
+
+pub step_numbers : (p : Program) (x u : List Number) (w : Assignment) (x' y : List Number) → IsProgram p → Step p x u w x' y → (x' ≡ numbers_in w p.items (places is_state p)) × (y ≡ numbers_in w p.items (places is_output p))
+step_numbers p x u w x' y h s = (
+  sym s.end ∙ after_numbers is_state p w s.after state_other state_defined h s.next (places is_state p) (λ n i. in_part is_state p n i),
+  sym s.outputs ∙ after_numbers is_output p w s.after output_other output_defined h s.next (places is_output p) (λ n i. in_part is_output p n i),
+)
+
+-- ---- one assignment and one step
+pub one_assignment : (p : Program) (o : Order) (x u : List Number) (v w : Assignment) → IsProgram p → IsOrder p o → IsValued p x u v → IsValued p x u w → (n : ℕ) → NameAt p.names n (λ k. is_output k.role ≡ false) → v n ≡ w n
+one_assignment p o x u v w h q a b n i = sym (valued_exact p o x u v h q a n i) ∙ valued_exact p o x u w h q b n i
+
+pub step_valued : (p : Program) (x u : List Number) (w : Assignment) (x' y : List Number) → Step p x u w x' y → IsValued p x u w
+step_valued p x u w x' y s = record { parameters = s.parameters; states = s.states; inputs = s.inputs; cases = s.cases }
+
+pub one_step : (p : Program) (o : Order) (x u : List Number) (v w : Assignment) (x' x'' y y' : List Number) → IsProgram p → IsOrder p o → Step p x u v x' y → Step p x u w x'' y' → (x' ≡ x'') × (y ≡ y')
+one_step p o x u v w x' x'' y y' h q s t =
+    let a = step_numbers p x u v x' y h s in
+    let b = step_numbers p x u w x'' y' h t in
+    let r = all_read (Same v w) p.names p.items h.bodies (λ m i. one_assignment p o x u v w h q (step_valued p x u v x' y s) (step_valued p x u w x'' y' t) m (name_map IsVariable (λ (x : Name). is_output x.role ≡ false) p.names m (λ x e. not_output x.role e) i)) in
+    (a.0 ∙ same_numbers v w p.items (places is_state p) r ∙ sym b.0, a.1 ∙ same_numbers v w p.items (places is_output p) r ∙ sym b.1)
+
+pub legal_exactly : (p : Program) (o : Order) (x u : List Number) (w : Assignment) → IsProgram p → IsOrder p o → IsValued p x u w → IsLawful (stops p o w) ↔ Legal p x u w (numbers_in w p.items (places is_state p)) (numbers_in w p.items (places is_output p))
+legal_exactly p o x u w h q v = (λ l. lawful_legal p o x u w h q v l, λ l. legal_lawful p o x u w (numbers_in w p.items (places is_state p)) (numbers_in w p.items (places is_output p)) h l)

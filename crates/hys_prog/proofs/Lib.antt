@@ -11,3 +11,4 @@ pub mod Reading
 pub mod Assigning
 pub mod Valuing
 pub mod Judging
+pub mod Guards

@@ -5,3 +5,4 @@ pub mod Orders
 pub mod Places
 pub mod Stops
 pub mod Walk
+pub mod Guarded

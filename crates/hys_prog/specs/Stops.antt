@@ -179,3 +179,14 @@ pub record IsStepped (p : Program) (x u : List Number) (r : Stepped) : Type 0 wh
   pub values : Assignment
   pub legal : Legal p x u values r.next r.outputs
   pub aux : r.aux ≡ map values (places is_auxiliary p)
+
+abbrev pub IsMet : Bool → Stop → Type 0
+IsMet b (Bounds n) = Unit {0}
+IsMet b (Gap k) = Unit {0}
+IsMet b (Must k) = Unit {0}
+IsMet b (Range k l) = b ≡ true
+
+-- each number that must fit does
+abbrev pub AllFit : List Check → Type 0
+AllFit [] = Unit {0}
+AllFit (c ∷ cs) = IsMet c.passes c.stop × AllFit cs
