@@ -37,8 +37,7 @@ fn between(known: &[Known], low: &Expr, high: &Expr, place: Place) -> Result<Int
     requires low { HasLiterals (tree_of low.now) }
     requires high { HasLiterals (tree_of high.now) }
     ensures fault { result_err result ≡ first_fault (bounds_checks known.now (tree_of low.now) (tree_of high.now) place) }
-    ensures ends { IfOk result (λ i. (i.low ≡ value (known_values known.now) (tree_of low.now)) ×
-        (i.high ≡ value (known_values known.now) (tree_of high.now))) }
+    ensures ends { IfOk result (λ i. (i.low ≡ value (known_values known.now) (tree_of low.now)) × (i.high ≡ value (known_values known.now) (tree_of high.now))) }
 {
     let low = evaluate_as(known, Kind::Real, low)?;
     let high = evaluate_as(known, Kind::Real, high)?;

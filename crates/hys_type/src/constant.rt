@@ -74,8 +74,7 @@ fn literal(digits: &Text, place: Place) -> Result<Constant, TypeFault>
 
 #[tactic(auto, using(crate::proofs::Constants::found_here, crate::proofs::Constants::found_behind))]
 fn find<'a>(known: &'a [Known], name: &Text) -> Option<&'a Known>
-    ensures { MatchOption result (find_known known.now name.now ≡ None) (λ k. find_known known.now name.now ≡
-        Some k.now) }
+    ensures { MatchOption result (find_known known.now name.now ≡ None) (λ k. find_known known.now name.now ≡ Some k.now) }
 {
     match known.split_first() {
         None => None,

@@ -32,32 +32,23 @@ ghost use Rattle.hys_type.specs.declared.dense.Dense.{Dense};
 /// the order of declaration and then between the constants; in a product or a quotient the
 /// constant side is spread over the names.
 pub fn dense_operations()
-    ensures matched { (ns : List Name) (o : Op) (f g : Form) (d e : Dense) → IsDense ns f d → IsDense ns g e →
-        folded_by o d e ≡ matched (between o) ns f g }
-    ensures left { (ns : List Name) (o : Op) (f g : Form) (d e : Dense) → IsDense ns f d → IsDense ns g e →
-        folded_by o (spread d) e ≡ each (between o) ns (λ n. f.constant) g.factor f.constant g.constant }
-    ensures right { (ns : List Name) (o : Op) (f g : Form) (d e : Dense) → IsDense ns f d → IsDense ns g e →
-        folded_by o d (spread e) ≡ each (between o) ns f.factor (λ n. g.constant) f.constant g.constant }
+    ensures matched { (ns : List Name) (o : Op) (f g : Form) (d e : Dense) → IsDense ns f d → IsDense ns g e → folded_by o d e ≡ matched (between o) ns f g }
+    ensures left { (ns : List Name) (o : Op) (f g : Form) (d e : Dense) → IsDense ns f d → IsDense ns g e → folded_by o (spread d) e ≡ each (between o) ns (λ n. f.constant) g.factor f.constant g.constant }
+    ensures right { (ns : List Name) (o : Op) (f g : Form) (d e : Dense) → IsDense ns f d → IsDense ns g e → folded_by o d (spread e) ≡ each (between o) ns f.factor (λ n. g.constant) f.constant g.constant }
 {}
 
 /// The first faults of small sources, and of some that have two.
 pub fn first_faults()
     ensures none { fault_of (stepping (name (codes "x") 6)) ≡ None }
     ensures unknown { fault_of (stepping (name (codes "z") 6)) ≡ Some (fault.Unknown (spot 6)) }
-    ensures not_linear { fault_of (stepping (tree.Binary binary.Mul (name (codes "x") 6) (name (codes "x") 8)
-        (spot 7))) ≡ Some (fault.NotLinear (spot 7)) }
-    ensures left_first { fault_of (stepping (tree.Binary binary.Add (tree.Truth true (spot 6)) (name
-        (codes "z") 8) (spot 7))) ≡ Some (fault.Unknown (spot 8)) }
+    ensures not_linear { fault_of (stepping (tree.Binary binary.Mul (name (codes "x") 6) (name (codes "x") 8) (spot 7))) ≡ Some (fault.NotLinear (spot 7)) }
+    ensures left_first { fault_of (stepping (tree.Binary binary.Add (tree.Truth true (spot 6)) (name (codes "z") 8) (spot 7))) ≡ Some (fault.Unknown (spot 8)) }
     ensures at_top { fault_of (stepping (tree.Truth true (spot 6))) ≡ Some (fault.Kind (spot 6)) }
-    ensures twice { fault_of (source (state (zero_at 2) (ten_at 3) ∷ state (zero_at 2) (ten_at 3) ∷ []) []) ≡
-        Some (fault.Twice (spot 1)) }
+    ensures twice { fault_of (source (state (zero_at 2) (ten_at 3) ∷ state (zero_at 2) (ten_at 3) ∷ []) []) ≡ Some (fault.Twice (spot 1)) }
     ensures missing { fault_of (source (state (zero_at 2) (ten_at 3) ∷ []) []) ≡ Some (fault.Missing (codes "x")) }
-    ensures not_constant { fault_of (source (state (name (codes "x") 2) (ten_at 3) ∷ []) []) ≡
-        Some (fault.Kind (spot 2)) }
-    ensures an_output { fault_of (source (state (zero_at 2) (ten_at 3) ∷ output ∷ []) (next (name (codes "y") 6) ∷
-        [])) ≡ Some (fault.Kind (spot 6)) }
-    ensures defined_twice { fault_of (source (state (zero_at 2) (ten_at 3) ∷ []) (next (zero_at 6) ∷
-        next (zero_at 7) ∷ [])) ≡ Some (fault.DefinedTwice (spot 5)) }
+    ensures not_constant { fault_of (source (state (name (codes "x") 2) (ten_at 3) ∷ []) []) ≡ Some (fault.Kind (spot 2)) }
+    ensures an_output { fault_of (source (state (zero_at 2) (ten_at 3) ∷ output ∷ []) (next (name (codes "y") 6) ∷ [])) ≡ Some (fault.Kind (spot 6)) }
+    ensures defined_twice { fault_of (source (state (zero_at 2) (ten_at 3) ∷ []) (next (zero_at 6) ∷ next (zero_at 7) ∷ [])) ≡ Some (fault.DefinedTwice (spot 5)) }
 {}
 
 /// A program that is the translation of a source has its meaning: its steps and its legal steps are
@@ -65,23 +56,16 @@ pub fn first_faults()
 /// its text and in the program by its place. Going from one to the other and back keeps the number
 /// of each declared name.
 pub fn same_meaning()
-    ensures texts_again { (s : Source) (w : Assignment) (n : List ℕ) (m : Name) → look (names s) n ≡ Some m →
-        by_texts (names s) (by_places (names s) w) n ≡ w n }
-    ensures places_again { (s : Source) (v : PlaceAssignment) (k : ℕ) → DeclaredOnce s → k < length (names s) →
-        by_places (names s) (by_texts (names s) v) k ≡ v k }
-    ensures steps_by_places { (tolerance : Number) (s : Source) (p : Program) → Translates tolerance s p →
-        StepsByPlaces (unfolded s) p }
-    ensures steps_by_texts { (tolerance : Number) (s : Source) (p : Program) → Translates tolerance s p →
-        StepsByTexts (unfolded s) p }
-    ensures legal_by_places { (tolerance : Number) (s : Source) (p : Program) → Translates tolerance s p →
-        LegalByPlaces tolerance (unfolded s) p }
-    ensures legal_by_texts { (tolerance : Number) (s : Source) (p : Program) → Translates tolerance s p →
-        LegalByTexts tolerance (unfolded s) p }
+    ensures texts_again { (s : Source) (w : Assignment) (n : List ℕ) (m : Name) → look (names s) n ≡ Some m → by_texts (names s) (by_places (names s) w) n ≡ w n }
+    ensures places_again { (s : Source) (v : PlaceAssignment) (k : ℕ) → DeclaredOnce s → k < length (names s) → by_places (names s) (by_texts (names s) v) k ≡ v k }
+    ensures steps_by_places { (tolerance : Number) (s : Source) (p : Program) → Translates tolerance s p → StepsByPlaces (unfolded s) p }
+    ensures steps_by_texts { (tolerance : Number) (s : Source) (p : Program) → Translates tolerance s p → StepsByTexts (unfolded s) p }
+    ensures legal_by_places { (tolerance : Number) (s : Source) (p : Program) → Translates tolerance s p → LegalByPlaces tolerance (unfolded s) p }
+    ensures legal_by_texts { (tolerance : Number) (s : Source) (p : Program) → Translates tolerance s p → LegalByTexts tolerance (unfolded s) p }
 {}
 
 /// The translation of a source that keeps the rules is a program, where the declarations of the
 /// source are as they are read from a text and the tolerance is above 0.
 pub fn translations_are_programs()
-    ensures { (tolerance : Number) (s : Source) (p : Program) → IsTranslation tolerance s p →
-        KeepsRules (unfolded s) → AllByRecursion IsDeclaration s.decls → whole 0 <ₙ tolerance → IsProgram p }
+    ensures { (tolerance : Number) (s : Source) (p : Program) → IsTranslation tolerance s p → KeepsRules (unfolded s) → AllByRecursion IsDeclaration s.decls → whole 0 <ₙ tolerance → IsProgram p }
 {}
