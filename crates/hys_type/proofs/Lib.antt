@@ -18,3 +18,4 @@ pub mod ProgramForms
 pub mod ProgramBodies
 pub mod ProgramWeight
 pub mod ProgramItems
+pub mod SmallTranslation

@@ -1,6 +1,6 @@
 //! What holds of the definitions, as calls that do nothing.
 
-ghost use Rattle.std.specs.Prelude.{◌≡◌, ◌<◌, ℕ, List, [], ◌∷◌, Some, None, true, codes, length};
+ghost use Rattle.std.specs.Prelude.{◌≡◌, ◌<◌, ◌↔◌, ℕ, List, [], ◌∷◌, Some, None, true, codes, length};
 ghost use Rattle.std.specs.List.{AllByRecursion};
 ghost use Rattle.hys_number.specs.Ops.{◌<ₙ◌, whole};
 ghost use Rattle.hys_meaning.specs.Accepted.{KeepsRules};
@@ -22,6 +22,7 @@ ghost use Rattle.hys_prog.specs.declared.program.Program.{Program};
 ghost use Rattle.hys_type.specs.Translation.{IsTranslation};
 ghost use Rattle.hys_type.specs.Views.{by_places, by_texts};
 ghost use Rattle.hys_type.specs.SameMeaning.{Translates, StepsByPlaces, StepsByTexts, LegalByPlaces, LegalByTexts};
+ghost use Rattle.hys_type.specs.SmallProgram.{small, small_program};
 ghost use Rattle.hys_type.specs.Checks.{fault_of};
 ghost use Rattle.hys_type.specs.Examples.{spot, name, zero_at, ten_at, state, output, next, source, stepping};
 ghost use Rattle.hys_type.specs.declared.fault.TypeFault.TheVariants as fault;
@@ -68,4 +69,11 @@ pub fn same_meaning()
 /// source are as they are read from a text and the tolerance is above 0.
 pub fn translations_are_programs()
     ensures { (tolerance : Number) (s : Source) (p : Program) → IsTranslation tolerance s p → KeepsRules (unfolded s) → AllByRecursion IsDeclaration s.decls → whole 0 <ₙ tolerance → IsProgram p }
+{}
+
+/// A small program is the translation of a small source with an unnamed guard, parameters of both
+/// kinds and both kinds of demands, just where its guard has the tolerance that is asked for and
+/// the factor is the parameter's value.
+pub fn small_translation()
+    ensures { (tolerance eps factor : Number) → IsTranslation tolerance small (small_program eps factor) ↔ ((eps ≡ tolerance) × (factor ≡ whole 2)) }
 {}
