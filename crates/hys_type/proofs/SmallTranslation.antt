@@ -1,5 +1,5 @@
 -- The small program is the translation of the small source.
-use Rattle.std.proofs.Common.{◌≡◌, ◌↔◌, ℕ, suc, List, [], ◌∷◌, Some, None, Option, true, false, codes, refl, sym, ap, subst, arith}
+use Rattle.std.proofs.Common.{◌≡◌, ◌↔◌, ◌∷◌, None, Option, codes, refl, sym, ap, subst, arith, inl, inr}
 use Rattle.std.proofs.Math.Path.{subst₂}
 use Rattle.std.specs.Float.Numeral.{scan_numeral}
 use Rattle.std.proofs.lemmas.Fmt.{decimal-digits_of}
@@ -8,9 +8,11 @@ use Rattle.hys_number.specs.Gcd.{gcd}
 use Rattle.hys_number.specs.Ops.{whole, neg, ◌+ₙ◌, ◌*ₙ◌}
 use Rattle.hys_lin.specs.Bits.{is_one}
 use Rattle.hys_meaning.specs.Values.{literal}
-use Rattle.hys_meaning.specs.Names.{names, parameters}
-use Rattle.hys_meaning.specs.Forms.{form, guard_form}
+use Rattle.hys_meaning.specs.Names.{parameters}
+use Rattle.hys_meaning.specs.Forms.{form}
 use Rattle.hys_meaning.specs.Unfolded.{unfolded, guard_name}
+use Rattle.hys_meaning.specs.Typed.{DeclaredOnce, Typed}
+use Rattle.hys_type.specs.SameMeaning.{Translates}
 use Rattle.hys_lin.specs.declared.form.Affine.{Affine}
 use Rattle.hys_ast.specs.declared.source.Kind.{Kind}
 use Rattle.hys_ast.specs.Tree.{Tree}
@@ -99,3 +101,22 @@ small_only tolerance eps factor = (
   λ h. only_named tolerance eps factor (subst (λ s. IsNamedTranslation tolerance s (small_program eps factor)) small_named h),
   λ e. subst₂ (λ (a b : Number). IsTranslation tolerance small (small_program a b)) (sym e.0) (sym e.1) (small_translated tolerance),
 )
+
+-- ---- the source is typed
+small_typed : Typed (small_by (codes "@1"))
+unfolding literal scan_numeral whole make gcd ◌+ₙ◌ ◌*ₙ◌ neg
+small_typed = record {
+  values = (tt, (tt, (tt, (tt, (tt, (tt, tt))))));
+  boxes = ((tt, tt), ((tt, tt), ((tt, tt), ((tt, tt), ((tt, tt), ((tt, tt), tt))))));
+  items = (
+    (refl, ((refl, refl, tt), tt)),
+    ((refl, refl), ((refl, refl), ((refl, ((refl, refl, inl (λ n. refl)), tt, tt)), ((refl, inr (refl, refl, tt)), ((refl, inl refl), tt))))),
+  );
+}
+
+pub small_translates : (tolerance : Number) → Translates tolerance small (small_program tolerance (whole 2))
+small_translates tolerance = record {
+  translation = small_translated tolerance;
+  once = subst DeclaredOnce (sym small_named) refl;
+  typed = subst Typed (sym small_named) small_typed;
+}

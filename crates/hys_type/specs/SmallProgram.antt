@@ -34,18 +34,18 @@ abbrev pub small : Source
 small = record {
   system = codes "s";
   decls = state (zero_at 2) (ten_at 3)
-    ∷ declared section.Parameter kind.Real (codes "p") 4 (Some (digits (codes "2") 5))
-    ∷ declared section.Parameter kind.Bool (codes "b") 6 (Some (tree.Truth true (spot 7)))
-    ∷ declared section.Aux kind.Bool (codes "d") 8 None
-    ∷ declared section.Aux kind.Bool (codes "e") 9 None
-    ∷ [];
+      ∷ declared section.Parameter kind.Real (codes "p") 4 (Some (digits (codes "2") 5))
+      ∷ declared section.Parameter kind.Bool (codes "b") 6 (Some (tree.Truth true (spot 7)))
+      ∷ declared section.Aux kind.Bool (codes "d") 8 None
+      ∷ declared section.Aux kind.Bool (codes "e") 9 None
+      ∷ [];
   items = said section.Logic (Some (codes "d")) 10 (tree.Binary binary.Least (name (codes "x") 11) (digits (codes "1") 13) (spot 12))
-    ∷ said section.Logic (Some (codes "e")) 14 (name (codes "b") 15)
-    ∷ said section.Continuous (Some (codes "x")) 16 (tree.Binary binary.Add
+      ∷ said section.Logic (Some (codes "e")) 14 (name (codes "b") 15)
+      ∷ said section.Continuous (Some (codes "x")) 16 (tree.Binary binary.Add
       (tree.Binary binary.Mul (name (codes "p") 17) (name (codes "x") 19) (spot 18)) (digits (codes "1") 21) (spot 20))
-    ∷ said section.Must None 22 (tree.Binary binary.Most (name (codes "x") 22) (digits (codes "3") 24) (spot 23))
-    ∷ said section.Must None 25 (name (codes "d") 25)
-    ∷ [];
+      ∷ said section.Must None 22 (tree.Binary binary.Most (name (codes "x") 22) (digits (codes "3") 24) (spot 23))
+      ∷ said section.Must None 25 (name (codes "d") 25)
+      ∷ [];
 }
 
 -- the same with a name for the comparison
@@ -53,20 +53,20 @@ abbrev pub small_by : List ℕ → Source
 small_by n = record {
   system = codes "s";
   decls = state (zero_at 2) (ten_at 3)
-    ∷ declared section.Parameter kind.Real (codes "p") 4 (Some (digits (codes "2") 5))
-    ∷ declared section.Parameter kind.Bool (codes "b") 6 (Some (tree.Truth true (spot 7)))
-    ∷ declared section.Aux kind.Bool (codes "d") 8 None
-    ∷ declared section.Aux kind.Bool (codes "e") 9 None
-    ∷ declared section.Aux kind.Bool n 12 None
-    ∷ [];
+      ∷ declared section.Parameter kind.Real (codes "p") 4 (Some (digits (codes "2") 5))
+      ∷ declared section.Parameter kind.Bool (codes "b") 6 (Some (tree.Truth true (spot 7)))
+      ∷ declared section.Aux kind.Bool (codes "d") 8 None
+      ∷ declared section.Aux kind.Bool (codes "e") 9 None
+      ∷ declared section.Aux kind.Bool n 12 None
+      ∷ [];
   items = said section.Ad (Some n) 12 (tree.Binary binary.Least (name (codes "x") 11) (digits (codes "1") 13) (spot 12))
-    ∷ said section.Logic (Some (codes "d")) 10 (name n 12)
-    ∷ said section.Logic (Some (codes "e")) 14 (name (codes "b") 15)
-    ∷ said section.Continuous (Some (codes "x")) 16 (tree.Binary binary.Add
+      ∷ said section.Logic (Some (codes "d")) 10 (name n 12)
+      ∷ said section.Logic (Some (codes "e")) 14 (name (codes "b") 15)
+      ∷ said section.Continuous (Some (codes "x")) 16 (tree.Binary binary.Add
       (tree.Binary binary.Mul (name (codes "p") 17) (name (codes "x") 19) (spot 18)) (digits (codes "1") 21) (spot 20))
-    ∷ said section.Must None 22 (tree.Binary binary.Most (name (codes "x") 22) (digits (codes "3") 24) (spot 23))
-    ∷ said section.Must None 25 (name (codes "d") 25)
-    ∷ [];
+      ∷ said section.Must None 22 (tree.Binary binary.Most (name (codes "x") 22) (digits (codes "3") 24) (spot 23))
+      ∷ said section.Must None 25 (name (codes "d") 25)
+      ∷ [];
 }
 
 -- ---- the program
@@ -85,18 +85,18 @@ abbrev pub small_program : (tolerance factor : Number) → Program
 small_program tolerance factor = record {
   system = codes "s";
   names = named (codes "x") role.State kind.Real 1 (whole 0) (whole 10) (whole 0)
-    ∷ named (codes "p") role.Parameter kind.Real 4 (whole 0) (whole 0) (whole 2)
-    ∷ named (codes "b") role.Parameter kind.Bool 6 (whole 0) (whole 1) (whole 1)
-    ∷ named (codes "d") role.Aux kind.Bool 8 (whole 0) (whole 1) (whole 0)
-    ∷ named (codes "e") role.Aux kind.Bool 9 (whole 0) (whole 1) (whole 0)
-    ∷ named (codes "@1") role.Aux kind.Bool 12 (whole 0) (whole 1) (whole 0)
-    ∷ [];
+      ∷ named (codes "p") role.Parameter kind.Real 4 (whole 0) (whole 0) (whole 2)
+      ∷ named (codes "b") role.Parameter kind.Bool 6 (whole 0) (whole 1) (whole 1)
+      ∷ named (codes "d") role.Aux kind.Bool 8 (whole 0) (whole 1) (whole 0)
+      ∷ named (codes "e") role.Aux kind.Bool 9 (whole 0) (whole 1) (whole 0)
+      ∷ named (codes "@1") role.Aux kind.Bool 12 (whole 0) (whole 1) (whole 0)
+      ∷ [];
   items = item (Some 5) 12 (means.Guard (over_x (neg (whole 1)) (whole 1)) tolerance)
-    ∷ item (Some 3) 10 (means.Logic (formula.Name 5))
-    ∷ item (Some 4) 14 (means.Logic (formula.Const true))
-    ∷ item (Some 0) 16 (means.NextReal (over_x factor (whole 1)))
-    ∷ item None 22 (means.MustMost (over_x (whole 1) (neg (whole 3))))
-    ∷ item None 25 (means.MustHold (formula.Name 3))
-    ∷ [];
+      ∷ item (Some 3) 10 (means.Logic (formula.Name 5))
+      ∷ item (Some 4) 14 (means.Logic (formula.Const true))
+      ∷ item (Some 0) 16 (means.NextReal (over_x factor (whole 1)))
+      ∷ item None 22 (means.MustMost (over_x (whole 1) (neg (whole 3))))
+      ∷ item None 25 (means.MustHold (formula.Name 3))
+      ∷ [];
   weight = 6;
 }

@@ -73,7 +73,8 @@ pub fn translations_are_programs()
 
 /// A small program is the translation of a small source with an unnamed guard, parameters of both
 /// kinds and both kinds of demands, just where its guard has the tolerance that is asked for and
-/// the factor is the parameter's value.
+/// the factor is the parameter's value. The source is typed.
 pub fn small_translation()
-    ensures { (tolerance eps factor : Number) → IsTranslation tolerance small (small_program eps factor) ↔ ((eps ≡ tolerance) × (factor ≡ whole 2)) }
+    ensures typed { (tolerance : Number) → Translates tolerance small (small_program tolerance (whole 2)) }
+    ensures only { (tolerance eps factor : Number) → IsTranslation tolerance small (small_program eps factor) ↔ ((eps ≡ tolerance) × (factor ≡ whole 2)) }
 {}
