@@ -1,33 +1,32 @@
 -- Intervals along an order.
-use Rattle.std.proofs.Common.{◌≡◌, ℕ, zero, suc, ◌+◌, ◌<◌, ◌≤◌, List, [], ◌∷◌, ◌++◌, Option, Some, None, Bool, true, false, cond, length, get_or, set, length-set, drop, refl, sym, ◌∙◌, ap, subst, arith, inl, inr, ◌⊎◌, eq-eqb, add-one}
+use Rattle.std.proofs.Common.{◌≡◌, ℕ, zero, suc, ◌+◌, ◌<◌, ◌≤◌, List, [], ◌∷◌, ◌++◌, Option, Some, None, Bool, true, false, cond, length, get_or, set, length-set, drop, refl, sym, ◌∙◌, ap, subst, arith, add-one}
 use Rattle.std.proofs.lemmas.Grind.{get_or_default_zero}
 use Rattle.std.proofs.lemmas.List.{drop_all}
-use Rattle.std.specs.List.{AllByRecursion}
 use Rattle.hys_number.specs.Ops.{fits}
-use Rattle.hys_lin.specs.declared.form.Affine.{Affine}
 use Rattle.hys_lin.specs.declared.form.Interval.{Interval}
 use Rattle.hys_lin.specs.declared.form.Term.{Term}
 use Rattle.hys_lin.specs.declared.lost.Lost.{Lost}
 use Rattle.hys_lin.specs.Operations.{first_lost, outcome}
 use Rattle.hys_lin.specs.Sums.{EachColumn}
 use Rattle.hys_prog.specs.declared.program.Name.{Name}
-use Rattle.hys_prog.specs.declared.program.Role.{Role}
-use Rattle.hys_prog.specs.declared.program.Role.TheVariants.{State, Input, Output, Parameter, Aux}
 use Rattle.hys_prog.specs.declared.program.Body.{Body}
 use Rattle.hys_prog.specs.declared.program.Body.TheVariants.{Guard, Choice, Logic, Linear, NextBool, NextReal, OutBool, OutReal, MustHold, MustMost, MustZero}
 use Rattle.hys_prog.specs.declared.program.ProgItem.{ProgItem}
 use Rattle.hys_prog.specs.declared.program.Program.{Program}
 use Rattle.hys_prog.specs.declared.program.Order.{Order}
 use Rattle.hys_prog.specs.Programs.{IsProgram, EachItem, NameAt, BodyOver, IsVariable, definitions, is_named, is_defined}
-use Rattle.hys_prog.specs.Steps.{places, places_from, is_auxiliary}
-use Rattle.hys_prog.specs.Orders.{IsIn, IsFirst, IsReady, IsOrderAfter, IsOrder}
+use Rattle.hys_prog.specs.Steps.{places, is_auxiliary}
+use Rattle.hys_prog.specs.Orders.{IsReady, IsOrderAfter, IsOrder}
 use Rattle.hys_prog.specs.Places.{ItemAt, Defines, ArePlaces}
+use Rattle.hys_prog.proofs.Defined.{name_below}
+use Rattle.hys_prog.proofs.Names.{aux_named, named_some, at_count, place_within}
+use Rattle.hys_prog.proofs.Members.{first_in}
 use Rattle.std.proofs.Common.{Ok, Err, Result, Vec, Global}
 use Rattle.std.specs.Result.{IsErrAnd}
 use Rattle.hys_bound.specs.Answers.{Judged}
 use Rattle.hys_bound.specs.declared.fault.BoundFault.{BoundFault}
 use Rattle.hys_bound.specs.declared.fault.BoundFault.TheVariants.{Range, Memory}
-use Rattle.hys_bound.specs.Ranges.{EachAsked, Placed, all_at, first_unfit, asked, asked_at, defined_interval, interval_at, place_in, with_interval, found, numbers_along, declared, intervals, range_numbers}
+use Rattle.hys_bound.specs.Ranges.{EachAsked, Placed, all_at, first_unfit, asked, asked_at, defined_interval, interval_at, place_in, with_interval, found, numbers_along, declared}
 
 -- ---- the first that doesn't fit
 pub unfit_none : (k : ℕ) (os : List Lost) → first_lost os ≡ None → first_unfit (all_at k os) ≡ None
@@ -73,21 +72,7 @@ asked_there boxes [] k t b e = absurd (omega arith)
 asked_there boxes (x ∷ ts) zero t b e = ap (λ (y : ProgItem). asked boxes y.body) e
 asked_there boxes (x ∷ ts) (suc k) t b e = asked_there boxes ts k t (omega arith) e
 
-pub each_here : (P : ProgItem → Type 0) (ts : List ProgItem) (k : ℕ) (t : ProgItem) → EachItem P ts → k < length ts → t ≡ get_or ts k t → P t
-each_here P [] k t h b e = absurd (omega arith)
-each_here P (x ∷ ts) zero t h b e = subst P (sym e) h.0
-each_here P (x ∷ ts) (suc k) t h b e = each_here P ts k t h.1 (omega arith) e
-
 -- ---- the one item that defines a name
-named_some : (n : ℕ) (o : Option ℕ) → o ≡ Some n → is_named n o ≡ true
-named_some n None e = absurd (cc)
-named_some n (Some m) e = let q : m ≡ n = cc in eq-eqb m n q
-
-at_count : (n : ℕ) (ts : List ProgItem) (k : ℕ) → ItemAt ts k (Defines n) → 0 < definitions n ts
-at_count n [] k h = absurd h
-at_count n (t ∷ ts) zero h = rw (named_some n t.name h) (omega arith)
-at_count n (t ∷ ts) (suc k) h = let l = at_count n ts k h in omega arith
-
 pub the_place : (n : ℕ) (ts : List ProgItem) (k : ℕ) → definitions n ts ≡ 1 → ItemAt ts k (Defines n) → k ≡ place_in ts n
 the_place n [] k d h = absurd h
 the_place n (t ∷ ts) zero d h = rw (named_some n t.name h) refl
@@ -97,52 +82,7 @@ the_place n (t ∷ ts) (suc k) d h = go (is_named n t.name) d (at_count n ts k h
     go true d l f = absurd (omega arith)
     go false d l f = ap suc (f (omega arith))
 
-pub place_within : (n : ℕ) (ts : List ProgItem) (k : ℕ) → ItemAt ts k (Defines n) → k < length ts
-place_within n [] k h = absurd h
-place_within n (t ∷ ts) zero h = omega arith
-place_within n (t ∷ ts) (suc k) h = let l = place_within n ts k h in omega arith
-
 -- ---- names of the order are auxiliaries
-name_below : (P : Name → Type 0) (xs : List Name) (n : ℕ) → NameAt xs n P → n < length xs
-name_below P [] n h = absurd h
-name_below P (x ∷ xs) zero h = omega arith
-name_below P (x ∷ xs) (suc n) h = let b = name_below P xs n h in omega arith
-
-aux_defined : (r : Role) → is_auxiliary r ≡ true → is_defined r ≡ true
-aux_defined State e = absurd (cc)
-aux_defined Input e = absurd (cc)
-aux_defined Output e = absurd (cc)
-aux_defined Parameter e = absurd (cc)
-aux_defined Aux e = refl
-
-name_map : (P Q : Name → Type 0) (xs : List Name) (n : ℕ) → ((x : Name) → P x → Q x) → NameAt xs n P → NameAt xs n Q
-name_map P Q [] n f h = absurd h
-name_map P Q (x ∷ xs) zero f h = f x h
-name_map P Q (x ∷ xs) (suc n) f h = name_map P Q xs n f h
-
-at_place : (part : Role → Bool) (k n : ℕ) (xs : List Name) → IsIn n (places_from k part xs) → (i : ℕ) × (n ≡ k + i) × NameAt xs i (λ x. part x.role ≡ true)
-at_place part k n [] h = absurd h
-at_place part k n (x ∷ xs) h = go (part x.role) refl h (λ h. at_place part (suc k) n xs h)
-  where
-    later : ((i : ℕ) × (n ≡ suc k + i) × NameAt xs i (λ x. part x.role ≡ true)) → (i : ℕ) × (n ≡ k + i) × NameAt (x ∷ xs) i (λ x. part x.role ≡ true)
-    later r = let e : n ≡ suc k + r.0 = r.1 in (suc r.0, omega arith, r.2)
-
-    go : (b : Bool) → part x.role ≡ b → IsIn n (cond b (k ∷ places_from (suc k) part xs) (places_from (suc k) part xs)) → (IsIn n (places_from (suc k) part xs) → (i : ℕ) × (n ≡ suc k + i) × NameAt xs i (λ x. part x.role ≡ true)) → (i : ℕ) × (n ≡ k + i) × NameAt (x ∷ xs) i (λ x. part x.role ≡ true)
-    go true e (inl q) f = (0, omega arith, e)
-    go true e (inr h) f = later (f h)
-    go false e h f = later (f h)
-
-aux_named : (p : Program) (n : ℕ) → IsIn n (places is_auxiliary p) → NameAt p.names n (λ x. is_defined x.role ≡ true)
-aux_named p n i =
-    let r = at_place is_auxiliary 0 n p.names i in
-    let q : r.0 ≡ n = (let z : n ≡ 0 + r.0 = r.1 in omega arith) in
-    name_map (λ (x : Name). is_auxiliary x.role ≡ true) (λ (x : Name). is_defined x.role ≡ true) p.names n (λ x h. aux_defined x.role h) (subst (λ (i : ℕ). NameAt p.names i (λ x. is_auxiliary x.role ≡ true)) q r.2)
-
-first_in : (P : ℕ → Type 0) (xs : List ℕ) (n : ℕ) → IsFirst P n xs → IsIn n xs
-first_in P [] n h = absurd h
-first_in P (x ∷ xs) n (inl h) = inl h.1
-first_in P (x ∷ xs) n (inr h) = inr (first_in P xs n h.1)
-
 order_defined : (p : Program) (taken ns : List ℕ) (k : ℕ) → IsOrderAfter p taken ns → k < length ns → NameAt p.names (get_or ns k 0) (λ x. is_defined x.role ≡ true)
 order_defined p taken [] k h b = absurd (omega arith)
 order_defined p taken (n ∷ ns) zero h b = aux_named p n (first_in (IsReady p taken) (places is_auxiliary p) n h.0)

@@ -1,5 +1,5 @@
 -- What a call for intervals answers.
-use Rattle.std.specs.Prelude.{◌≡◌, List, Option, Some, None, Result, Ok, Err}
+use Rattle.std.specs.Prelude.{◌≡◌, List, Some, None, Result, Ok, Err}
 use Rattle.hys_bound.specs.Ranges.{Placed, first_unfit}
 use Rattle.hys_bound.specs.declared.fault.BoundFault.{BoundFault}
 use Rattle.hys_bound.specs.declared.fault.BoundFault.TheVariants.{Range, Memory}

@@ -1,5 +1,5 @@
 -- The intervals of a program's names along an order of definition, and the operations that give them.
-use Rattle.std.specs.Prelude.{◌≡◌, ℕ, zero, suc, ◌<◌, List, [], ◌∷◌, ◌++◌, Option, Some, None, true, false, map, cond}
+use Rattle.std.specs.Prelude.{ℕ, zero, suc, List, [], ◌∷◌, ◌++◌, Option, Some, None, true, false, cond}
 use Rattle.std.proofs.Common.{set}
 use Rattle.std.specs.Ordering.{is_le}
 use Rattle.hys_number.specs.Number.{Number}
@@ -124,9 +124,14 @@ abbrev pub found : List ProgItem → List ℕ → List Interval → List Interva
 found items [] boxes = boxes
 found items (n ∷ ns) boxes = found items ns (with_interval items n boxes)
 
+-- the numbers of the interval of one auxiliary
+abbrev pub numbers_here : List ProgItem → ℕ → List Interval → List Placed
+numbers_here items n boxes = all_at (place_in items n) (asked_at boxes items (place_in items n))
+
+-- of each auxiliary in turn, over the intervals found so far
 abbrev pub numbers_along : List ProgItem → List ℕ → List Interval → List Placed
 numbers_along items [] boxes = []
-numbers_along items (n ∷ ns) boxes = all_at (place_in items n) (asked_at boxes items (place_in items n)) ++ numbers_along items ns (with_interval items n boxes)
+numbers_along items (n ∷ ns) boxes = numbers_here items n boxes ++ numbers_along items ns (with_interval items n boxes)
 
 -- the interval of a name as it is declared: a state's and an input's box, the value of a parameter at both ends; 0 to
 -- 0 for an output, and for an auxiliary until its own is found

@@ -3,6 +3,7 @@ ghost use Rattle.std.specs.List.{AllByRecursion};
 ghost use Rattle.hys_prog.specs.Programs.{IsProgram, EachItem};
 ghost use Rattle.hys_prog.specs.Orders.{IsOrder};
 ghost use Rattle.hys_bound.specs.Ranges.{EachAsked, all_at, asked_at, interval_at, declared, declared_interval, intervals, range_numbers};
+ghost use Rattle.hys_bound.specs.Values.{HoldsValues};
 ghost use Rattle.hys_bound.specs.Answers.{Judged};
 
 use crate::fault::BoundFault;
@@ -13,8 +14,9 @@ use hys_prog::{Name, Order, ProgItem, Program, Role, definitions};
 use std::alloc::{AllocError, Global};
 
 /// One interval for each name: the declared box of a state or an input, the value of a parameter
-/// at both ends, and for an auxiliary that of its definition along the order. That of an output
-/// is 0 to 0 and means nothing.
+/// at both ends, and for an auxiliary that of its definition along the order. It holds every
+/// number that the name takes for states and inputs within bounds. That of an output is 0 to 0 and
+/// means nothing.
 ///
 /// # Errors
 /// `Range` exactly where a number of the intervals doesn't fit, with the first along the order and
@@ -24,6 +26,7 @@ pub fn bounds(alloc: Global, program: &Program, order: &Order) -> Result<Vec<Int
     requires program { IsProgram program.now }
     requires order { IsOrder program.now order.now }
     ensures value { IfOk result (λ boxes. boxes.items ≡ intervals program.now order.now) }
+    ensures holds { IfOk result (λ boxes. HoldsValues program.now boxes.items) }
     ensures judged { Judged (range_numbers program.now order.now) result }
 {
     let places = definitions(alloc, program)?;

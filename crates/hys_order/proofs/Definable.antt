@@ -10,9 +10,10 @@ use Rattle.hys_prog.specs.Steps.{places, places_from, is_auxiliary}
 use Rattle.hys_prog.specs.Orders.{IsIn, IsNone, Leads, LeadsTo, Circular, IsReady, IsOrderAfter, IsOrder}
 use Rattle.hys_order.specs.Lists.{others}
 use Rattle.hys_order.specs.Links.{link, Untaken, Ready, Taking, IsStuck, AreLinksOf, Chain, IsRound}
-use Rattle.hys_order.proofs.Members.{in_at, at_in, none_in, all_of, each_of, first_holds, first_in, first_map, first_same}
-use Rattle.hys_order.proofs.Taken.{untaken_below, taking_grows}
-use Rattle.hys_order.proofs.Linked.{IsAuxiliary, at_place, name_below}
+use Rattle.hys_prog.proofs.Members.{in_at, at_in, none_in, all_of, each_of, first_holds, first_in, first_map, first_same}
+use Rattle.hys_order.proofs.Taken.{either_mark, untaken_below, taking_grows}
+use Rattle.hys_prog.proofs.Defined.{name_below}
+use Rattle.hys_prog.proofs.Names.{IsAuxiliary, aux_at}
 
 -- ---- marks
 -- the names marked as taken are those that are no auxiliary, and those that are done
@@ -20,13 +21,6 @@ record Marks (p : Program) (done : List ℕ) (taken : List Bool) : Type 0 where
   count : length taken ≡ length p.names
   marked : (n : ℕ) → get_or taken n true ≡ true → IsIn n (places is_auxiliary p) → IsIn n done
   unmarked : (n : ℕ) → Untaken taken n → IsNone n done × IsIn n (places is_auxiliary p)
-
-either_mark : (taken : List Bool) (n : ℕ) → (get_or taken n true ≡ true) ⊎ Untaken taken n
-either_mark taken n = go (get_or taken n true) refl
-  where
-    go : (b : Bool) → get_or taken n true ≡ b → (get_or taken n true ≡ true) ⊎ Untaken taken n
-    go true e = inl e
-    go false e = inr e
 
 pub others_count : (xs : List Name) → length (others xs) ≡ length xs
 others_count [] = refl
@@ -53,7 +47,7 @@ free_aux (x ∷ xs) (suc n) k j e h = go (is_auxiliary x.role) (free_aux xs n (s
 marks_start : (p : Program) → Marks p [] (others p.names)
 marks_start p = record {
   count = others_count p.names;
-  marked = λ n e i. let r = at_place is_auxiliary 0 n p.names i in let q : r.0 ≡ n = (let z : n ≡ 0 + r.0 = r.1 in omega arith) in absurd (aux_free p.names n (subst (λ (i : ℕ). NameAt p.names i IsAuxiliary) q r.2) e);
+  marked = λ n e i. absurd (aux_free p.names n (aux_at p n i) e);
   unmarked = λ n u. (tt, free_aux p.names n 0 n (omega arith) u);
 }
 
@@ -189,7 +183,4 @@ one_order p o q h k = same_after p [] o.names q.names h k
 
 -- ---- the auxiliaries are names
 pub auxiliaries_below : (p : Program) (k : ℕ) → k < length (places is_auxiliary p) → get_or (places is_auxiliary p) k 0 < length p.names
-auxiliaries_below p k b = go (get_or (places is_auxiliary p) k 0) (at_place is_auxiliary 0 (get_or (places is_auxiliary p) k 0) p.names (in_at (places is_auxiliary p) k b))
-  where
-    go : (n : ℕ) → ((i : ℕ) × (n ≡ 0 + i) × NameAt p.names i IsAuxiliary) → n < length p.names
-    go n r = let b = name_below IsAuxiliary p.names r.0 r.2 in let e : n ≡ 0 + r.0 = r.1 in omega arith
+auxiliaries_below p k b = name_below IsAuxiliary p.names (get_or (places is_auxiliary p) k 0) (aux_at p (get_or (places is_auxiliary p) k 0) (in_at (places is_auxiliary p) k b))

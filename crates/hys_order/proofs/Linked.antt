@@ -1,5 +1,5 @@
 -- What the definitions of a program's auxiliaries mention.
-use Rattle.std.proofs.Common.{◌≡◌, ℕ, zero, suc, ◌+◌, ◌<◌, List, [], ◌∷◌, ◌++◌, Option, Some, None, Bool, true, false, cond, length, get_or, refl, ◌∙◌, ap, subst, arith, inl, inr, ◌⊎◌, ◌↔◌, IsTrue, eq-eqb}
+use Rattle.std.proofs.Common.{◌≡◌, ℕ, zero, suc, ◌+◌, ◌<◌, List, [], ◌∷◌, ◌++◌, Some, Bool, true, false, cond, length, get_or, refl, ◌∙◌, ap, subst, arith, inl, inr, ◌⊎◌, ◌↔◌, IsTrue}
 use Rattle.std.proofs.lemmas.Grind.{get_or_default_zero}
 use Rattle.hys_lin.specs.declared.form.Term.{Term}
 use Rattle.hys_lin.specs.Sums.{EachColumn}
@@ -12,12 +12,14 @@ use Rattle.hys_prog.specs.declared.program.Program.{Program}
 use Rattle.hys_prog.specs.declared.program.Role.{Role}
 use Rattle.hys_prog.specs.declared.program.Role.TheVariants.{State, Input, Output, Parameter, Aux}
 use Rattle.hys_prog.specs.Programs.{IsProgram, EachItem, NameAt, BodyOver, IsVariable, IsBooleanVariable, definitions, is_named, is_defined}
-use Rattle.hys_prog.specs.Steps.{places_from, is_auxiliary}
-use Rattle.hys_prog.specs.Orders.{Stands, HasTerm, MentionedIn, SomeItem, Leads, IsIn}
+use Rattle.hys_prog.specs.Steps.{is_auxiliary}
+use Rattle.hys_prog.specs.Orders.{Stands, HasTerm, MentionedIn, SomeItem, IsIn}
 use Rattle.hys_prog.specs.Places.{ItemAt, Defines, ArePlaces}
 use Rattle.hys_order.specs.Lists.{standing, columns, mentioned, mentioned_at, link_of, links_from}
 use Rattle.hys_order.specs.Links.{link, AreLinksOf}
-use Rattle.hys_order.proofs.Members.{in_left, in_right, in_parts, in_at}
+use Rattle.hys_prog.proofs.Defined.{name_below}
+use Rattle.hys_prog.proofs.Names.{IsAuxiliary, aux_defined, aux_at, aux_named, named_some, at_count, place_within}
+use Rattle.hys_prog.proofs.Members.{in_left, in_right, in_parts, in_at}
 
 pub mentioned_here : (ts : List ProgItem) (k : ℕ) (t : ProgItem) (ms : List ℕ) → k < length ts → t ≡ get_or ts k t → ms ≡ mentioned t.body → ms ≡ mentioned_at ts k
 mentioned_here [] k t ms b e h = absurd (omega arith)
@@ -75,15 +77,6 @@ mentions m (MustMost f) = (λ h. h, λ h. h)
 mentions m (MustZero f) = (λ h. h, λ h. h)
 
 -- ---- the item that defines a name
-named_some : (n : ℕ) (o : Option ℕ) → o ≡ Some n → is_named n o ≡ true
-named_some n None e = absurd (cc)
-named_some n (Some m) e = let q : m ≡ n = cc in eq-eqb m n q
-
-at_count : (n : ℕ) (ts : List ProgItem) (k : ℕ) → ItemAt ts k (Defines n) → 0 < definitions n ts
-at_count n [] k h = absurd h
-at_count n (t ∷ ts) zero h = rw (named_some n t.name h) (omega arith)
-at_count n (t ∷ ts) (suc k) h = let l = at_count n ts k h in omega arith
-
 some_count : (n : ℕ) (Q : ProgItem → Type 0) (ts : List ProgItem) → SomeItem (λ t. (t.name ≡ Some n) × Q t) ts → 0 < definitions n ts
 some_count n Q [] h = absurd h
 some_count n Q (t ∷ ts) (inl h) = rw (named_some n t.name h.0) (omega arith)
@@ -117,51 +110,16 @@ aux_link items Output k e = absurd (cc)
 aux_link items Parameter k e = absurd (cc)
 aux_link items Aux k e = refl
 
-aux_defined : (r : Role) → is_auxiliary r ≡ true → is_defined r ≡ true
-aux_defined State e = absurd (cc)
-aux_defined Input e = absurd (cc)
-aux_defined Output e = absurd (cc)
-aux_defined Parameter e = absurd (cc)
-aux_defined Aux e = refl
-
-pub name_map : (P Q : Name → Type 0) (xs : List Name) (n : ℕ) → ((x : Name) → P x → Q x) → NameAt xs n P → NameAt xs n Q
-name_map P Q [] n f h = absurd h
-name_map P Q (x ∷ xs) zero f h = f x h
-name_map P Q (x ∷ xs) (suc n) f h = name_map P Q xs n f h
-
-abbrev pub IsAuxiliary : Name → Type 0
-IsAuxiliary x = is_auxiliary x.role ≡ true
-
 link_at : (items : List ProgItem) (ps : List ℕ) (k : ℕ) (xs : List Name) (i j : ℕ) → j ≡ k + i → NameAt xs i IsAuxiliary → get_or (links_from items ps k xs) i [] ≡ mentioned_at items (get_or ps j 0)
 link_at items ps k [] i j e h = absurd h
 link_at items ps k (x ∷ xs) zero j e h = let q : j ≡ k = omega arith in rw q (aux_link items x.role (get_or ps k 0) h)
 link_at items ps k (x ∷ xs) (suc i) j e h = link_at items ps (suc k) xs i j (omega arith) h
-
-pub at_place : (part : Role → Bool) (k n : ℕ) (xs : List Name) → IsIn n (places_from k part xs) → (i : ℕ) × (n ≡ k + i) × NameAt xs i (λ x. part x.role ≡ true)
-at_place part k n [] h = absurd h
-at_place part k n (x ∷ xs) h = go (part x.role) refl h (λ h. at_place part (suc k) n xs h)
-  where
-    Found : Type 0
-    Found = (i : ℕ) × (n ≡ k + i) × NameAt (x ∷ xs) i (λ x. part x.role ≡ true)
-
-    later : ((i : ℕ) × (n ≡ suc k + i) × NameAt xs i (λ x. part x.role ≡ true)) → Found
-    later r = let e : n ≡ suc k + r.0 = r.1 in (suc r.0, omega arith, r.2)
-
-    go : (b : Bool) → part x.role ≡ b → IsIn n (cond b (k ∷ places_from (suc k) part xs) (places_from (suc k) part xs)) → (IsIn n (places_from (suc k) part xs) → (i : ℕ) × (n ≡ suc k + i) × NameAt xs i (λ x. part x.role ≡ true)) → Found
-    go true e (inl q) f = (0, omega arith, e)
-    go true e (inr h) f = later (f h)
-    go false e h f = later (f h)
 
 links_count : (items : List ProgItem) (ps : List ℕ) (k : ℕ) (xs : List Name) → length (links_from items ps k xs) ≡ length xs
 links_count items ps k [] = refl
 links_count items ps k (x ∷ xs) = ap suc (links_count items ps (suc k) xs)
 
 -- ---- what is mentioned is a name
-pub name_below : (P : Name → Type 0) (xs : List Name) (n : ℕ) → NameAt xs n P → n < length xs
-name_below P [] n h = absurd h
-name_below P (x ∷ xs) zero h = omega arith
-name_below P (x ∷ xs) (suc n) h = let b = name_below P xs n h in omega arith
-
 columns_below : (names : List Name) (m : ℕ) (ts : List Term) → EachColumn (λ n. NameAt names n IsVariable) ts → IsIn m (columns ts) → m < length names
 columns_below names m [] h i = absurd i
 columns_below names m (t ∷ ts) h (inl e) = let b = name_below IsVariable names t.column h.0 in rw e at b
@@ -212,30 +170,17 @@ pub linked : (p : Program) (ps : List ℕ) (links : List (List ℕ)) → IsProgr
 linked p ps links h a e = rw e (record {
   count = links_count p.items ps 0 p.names;
   below = λ n k b. let m : ℕ = get_or (link (links_from p.items ps 0 p.names) n) k 0 in rw (links_count p.items ps 0 p.names) (link_below p.names m p.items ps 0 p.names n h.bodies (in_at (link (links_from p.items ps 0 p.names) n) k b));
-  leads = λ n m i. leads n m (at_place is_auxiliary 0 n p.names i);
+  leads = λ n m i. rw (link_at p.items ps 0 p.names n n (omega arith) (aux_at p n i)) (item_mentions n m p.items (get_or ps n 0) (h.once n (aux_named p n i)) (a n (aux_named p n i)));
 })
-  where
-    leads : (n m : ℕ) → ((i : ℕ) × (n ≡ 0 + i) × NameAt p.names i IsAuxiliary) → Leads p n m ↔ IsIn m (link (links_from p.items ps 0 p.names) n)
-    leads n m r = let q : r.0 ≡ n = (let z : n ≡ 0 + r.0 = r.1 in omega arith) in at (subst (λ (i : ℕ). NameAt p.names i IsAuxiliary) q r.2)
-      where
-        at : NameAt p.names n IsAuxiliary → Leads p n m ↔ IsIn m (link (links_from p.items ps 0 p.names) n)
-        at u =
-            let d = name_map IsAuxiliary (λ (x : Name). is_defined x.role ≡ true) p.names n (λ x v. aux_defined x.role v) u in
-            rw (link_at p.items ps 0 p.names n n (omega arith) u) (item_mentions n m p.items (get_or ps n 0) (h.once n d) (a n d))
 
 -- the item that defines an auxiliary is one of the items
 pub placed_within : (p : Program) (ps : List ℕ) (n k : ℕ) (x : Name) → ArePlaces p ps → n < length p.names → x ≡ get_or p.names n x → k ≡ get_or ps n k → n < length ps → IsTrue (is_auxiliary x.role) → k < length p.items
 placed_within p ps n k x a b e f w t =
     let d = name_here p.names n x b e (aux_defined x.role t) in
     let q : k ≡ get_or ps n 0 = f ∙ get_or_default_zero ps n k w in
-    rw q (item_within p.items (get_or ps n 0) (a n d))
+    rw q (place_within n p.items (get_or ps n 0) (a n d))
   where
     name_here : (xs : List Name) (n : ℕ) (x : Name) → n < length xs → x ≡ get_or xs n x → is_defined x.role ≡ true → NameAt xs n (λ x. is_defined x.role ≡ true)
     name_here [] n x b e d = absurd (omega arith)
     name_here (y ∷ xs) zero x b e d = subst (λ (z : Name). is_defined z.role ≡ true) e d
     name_here (y ∷ xs) (suc n) x b e d = name_here xs n x (omega arith) e d
-
-    item_within : (ts : List ProgItem) (k : ℕ) → ItemAt ts k (Defines n) → k < length ts
-    item_within [] k h = absurd h
-    item_within (t ∷ ts) zero h = omega arith
-    item_within (t ∷ ts) (suc k) h = let l = item_within ts k h in omega arith

@@ -6,7 +6,7 @@ use Rattle.std.proofs.lemmas.Bool.{cases_eq, cases_lt}
 use Rattle.hys_prog.specs.Orders.{IsIn, IsNone, AreDifferent}
 use Rattle.hys_order.specs.Links.{link, Untaken, Passed, Ready, head_or, Chain, IsRound, IsTurned}
 use Rattle.hys_order.specs.Answers.{BeginsWithLeast}
-use Rattle.hys_order.proofs.Members.{in_at, at_in, all_of, in_left, in_right, in_parts, none_parts, different_between, different_turned, different_right, all_parts, all_left, all_right}
+use Rattle.hys_prog.proofs.Members.{in_at, at_in, all_of, in_left, in_right, in_parts, none_parts, different_between, different_turned, different_right, all_parts, all_left, all_right}
 use Rattle.hys_order.proofs.Taken.{untaken_below, untaken_at}
 
 -- ---- chains

@@ -3,7 +3,14 @@ use Rattle.std.proofs.Common.{◌≡◌, ℕ, zero, suc, ◌<◌, ◌≤◌, Lis
 use Rattle.std.proofs.lemmas.Bool.{cases_eq}
 use Rattle.hys_prog.specs.Orders.{IsFirst}
 use Rattle.hys_order.specs.Links.{link, Untaken, unset, Passed, Ready, Taking, AreCursors}
-use Rattle.hys_order.proofs.Members.{first_holds}
+use Rattle.hys_prog.proofs.Members.{first_holds}
+
+pub either_mark : (taken : List Bool) (n : ℕ) → (get_or taken n true ≡ true) ⊎ Untaken taken n
+either_mark taken n = go (get_or taken n true) refl
+  where
+    go : (b : Bool) → get_or taken n true ≡ b → (get_or taken n true ≡ true) ⊎ Untaken taken n
+    go true e = inl e
+    go false e = inr e
 
 pub untaken_below : (taken : List Bool) (n : ℕ) → Untaken taken n → n < length taken
 untaken_below [] n h = absurd (cc)

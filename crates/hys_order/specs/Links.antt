@@ -32,18 +32,26 @@ pub record Ready (taken : List Bool) (links : List (List ℕ)) (n : ℕ) : Type 
   pub free : Untaken taken n
   pub passed : Passed taken (link links n) (length (link links n))
 
+-- the name is the first of the list that is ready
+abbrev pub IsFirstReady : List (List ℕ) → List ℕ → List Bool → ℕ → Type 0
+IsFirstReady links names taken n = IsFirst (Ready taken links) n names
+
 -- the names are the first ready ones of the list, one after the other, with what is taken in the end
 abbrev pub Taking : List (List ℕ) → List ℕ → List Bool → List ℕ → List Bool → Type 0
 Taking links names taken [] end = taken ≡ end
-Taking links names taken (n ∷ ns) end = IsFirst (Ready taken links) n names × Taking links names (set taken n true) ns end
+Taking links names taken (n ∷ ns) end = IsFirstReady links names taken n × Taking links names (set taken n true) ns end
 
 -- none of the names is ready
 abbrev pub IsStuck : List (List ℕ) → List ℕ → List Bool → Type 0
 IsStuck links names taken = (k : ℕ) → k < length names → ¬ (Ready taken links (get_or names k 0))
 
--- of each name that many that it leads to, from the first on, are taken
+-- the list is that long, and that many of its names, from the first on, are taken
+abbrev pub IsCursor : List Bool → List ℕ → ℕ → Type 0
+IsCursor taken ms place = (place ≤ length ms) × Passed taken ms place
+
+-- of each name that many that it leads to are taken
 abbrev pub AreCursors : List Bool → List (List ℕ) → List ℕ → Type 0
-AreCursors taken links cursors = (n : ℕ) → n < length links → (get_or cursors n 0 ≤ length (link links n)) × Passed taken (link links n) (get_or cursors n 0)
+AreCursors taken links cursors = (n : ℕ) → n < length links → IsCursor taken (link links n) (get_or cursors n 0)
 
 -- each name leads to names among those that the lists are of
 abbrev pub AreLinks : List (List ℕ) → Type 0

@@ -1,8 +1,7 @@
-ghost use Rattle.std.specs.Prelude.{◌≡◌, ◌<◌, ℕ, length, MatchOption, true};
-ghost use Rattle.std.proofs.Common.{get_or};
+ghost use Rattle.std.specs.Prelude.{length, MatchOption};
 ghost use Rattle.hys_prog.specs.Programs.{IsProgram};
 ghost use Rattle.hys_order.specs.Answers.{Ordered};
-ghost use Rattle.hys_order.specs.Links.{Untaken, Below};
+ghost use Rattle.hys_order.specs.Links.{Untaken, Passed, Below};
 
 use crate::auxiliaries::{auxiliaries, others_of};
 use crate::fault::OrderFault;
@@ -44,7 +43,7 @@ pub fn order(alloc: Global, program: &Program) -> Result<Order, OrderFault>
 // The first of the names that isn't taken.
 fn first_left(names: &[NameId], taken: &[bool]) -> Option<NameId>
     requires { Below (length taken.now) names.now }
-    ensures { MatchOption result ((k : ℕ) → k < length names.now → get_or taken.now (get_or names.now k 0) true ≡ true) (λ n. Untaken taken.now n) }
+    ensures { MatchOption result (Passed taken.now names.now (length names.now)) (λ n. Untaken taken.now n) }
 {
     for name in names {
         if !taken[*name as usize] {

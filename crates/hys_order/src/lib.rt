@@ -12,3 +12,6 @@ mod selection;
 
 pub use definition_order::order;
 pub use fault::OrderFault;
+
+#[cfg(test)]
+mod tests;

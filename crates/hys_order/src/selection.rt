@@ -1,7 +1,6 @@
 ghost use Rattle.std.specs.Prelude.{◌≡◌, ◌<◌, ◌≤◌, ℕ, IfOk, IsTrue, ◌↔◌, MatchOption, length, true, false};
 ghost use Rattle.std.proofs.Common.{get_or};
-ghost use Rattle.hys_prog.specs.Orders.{IsFirst};
-ghost use Rattle.hys_order.specs.Links.{link, Passed, Below, Ready, Taking, IsStuck, AreCursors, AreLinks};
+ghost use Rattle.hys_order.specs.Links.{link, Passed, Below, IsFirstReady, Taking, IsStuck, AreCursors, AreLinks};
 
 use crate::fault::OrderFault;
 use hys_base::List;
@@ -53,7 +52,7 @@ fn next_ready(
     requires links { AreLinks links.now }
     requires length { length cursors.old.items ≡ length links.now }
     requires cursors { AreCursors taken.now links.now cursors.old.items }
-    ensures first { MatchOption result (IsStuck links.now names.now taken.now) (λ n. IsFirst (Ready taken.now links.now) n names.now) }
+    ensures first { MatchOption result (IsStuck links.now names.now taken.now) (IsFirstReady links.now names.now taken.now) }
     ensures length { length cursors.new.items ≡ length links.now }
     ensures cursors { AreCursors taken.now links.now cursors.new.items }
 {

@@ -36,7 +36,7 @@ name_below P [] n h = absurd h
 name_below P (x ∷ xs) zero h = omega arith
 name_below P (x ∷ xs) (suc n) h = let b = name_below P xs n h in omega arith
 
-some_named : (n : ℕ) (o : Option ℕ) → is_named n o ≡ true → o ≡ Some n
+pub some_named : (n : ℕ) (o : Option ℕ) → is_named n o ≡ true → o ≡ Some n
 some_named n None e = absurd (cc)
 some_named n (Some m) e = ap Some (eqb-true m n e)
 

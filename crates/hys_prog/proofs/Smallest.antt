@@ -16,7 +16,7 @@ use Rattle.hys_ast.specs.declared.source.Kind.TheVariants.{Real}
 use Rattle.hys_prog.specs.declared.program.Role.TheVariants.{State}
 use Rattle.hys_prog.specs.declared.program.Name.{Name}
 
-one_is_not_zero : ¬ (whole 1 ≡ whole 0)
+pub one_is_not_zero : ¬ (whole 1 ≡ whole 0)
 unfolding whole make gcd
 one_is_not_zero e = let f = ap (λ (x : Number). x.num) e in absurd (cc)
 
@@ -24,17 +24,18 @@ long : list_all (λ w. nat_lt 1 (length w)) keywords ≡ true
 unfolding keywords
 long = refl
 
-no_keyword : (k : ℕ) → IsAt keywords k (codes "x") → ⊥
-no_keyword k h =
+-- no word of one byte is a keyword
+pub no_keyword : (b k : ℕ) → IsAt keywords k (b ∷ []) → ⊥
+no_keyword b k h =
     let p : nat_lt 1 (length (slice_index_or keywords k [])) ≡ true = AllPass-from_list_all (λ (w : List ℕ). nat_lt 1 (length w)) keywords long k [] h.0 in
     let q = rw h.1 at p in absurd (cc)
 
-name_bytes : (i : ℕ) (d : ℕ) → i < 1 → is_name_byte (slice_index_or (120 ∷ []) i d) ≡ true
-name_bytes zero d h = refl
-name_bytes (suc i) d h = absurd (omega arith)
+pub name_bytes : (b i d : ℕ) → is_name_byte b ≡ true → i < 1 → is_name_byte (slice_index_or (b ∷ []) i d) ≡ true
+name_bytes b zero d e h = e
+name_bytes b (suc i) d e h = absurd (omega arith)
 
-spelled : IsWord (codes "x")
-spelled = (((refl, name_bytes), no_keyword), omega arith)
+pub spelled : IsWord (codes "x")
+spelled = (((refl, λ i d h. name_bytes 120 i d refl h), no_keyword 120), omega arith)
 
 once : (n : ℕ) → NameAt example.names n (λ x. is_defined x.role ≡ true) → definitions n example.items ≡ 1
 once zero h = refl
@@ -46,7 +47,7 @@ only = record { text = codes "x"; role = State; kind = Real; place = start; boun
 above : 0 < 1
 above = omega arith
 
-zero_ten : whole 0 ≤ₙ whole 10
+pub zero_ten : whole 0 ≤ₙ whole 10
 zero_ten = rw (whole-ratio 0 1 above, whole-ratio 10 1 above) (simp (ratios, above) (omega arith))
 
 pub is_program : IsProgram example

@@ -1,8 +1,9 @@
-use Rattle.std.proofs.Common.{◌≡◌, ◌<◌, length, ℕ, sym, ◌∙◌, ap, subst, List, arith, get_or, None, Some, refl}
+use Rattle.std.proofs.Common.{◌≡◌, ◌≤◌, ◌<◌, length, ℕ, ◌∙◌, ap, subst, List, arith, get_or, None, Some}
 use Rattle.hys_lin.specs.declared.form.Interval.{Interval}
 use Rattle.hys_prog.specs.declared.program.ProgItem.{ProgItem}
 use Rattle.hys_bound.specs.Ranges.{declared, interval_at, asked_at, all_at, first_unfit, Placed, range_numbers}
-use Rattle.hys_bound.proofs.Turns.{turn, named_below, onward_more, onward_lost, onward_end, declared_count, judged_on, judged_err}
+use Rattle.hys_bound.proofs.Turns.{turn, named_below, onward_more, onward_lost, declared_count, onward_end, judged_on, judged_err}
+use Rattle.hys_bound.proofs.Holding.{intervals_hold}
 use Rattle.hys_bound.proofs.along.bounds.Goals as goal
 
 pub index-requires : goal.index-requires
@@ -44,3 +45,9 @@ returns-in_err-interval-clause-judged c =
     (judged_on (all_at c.index.result.now (asked_at c.deref.result.now c.items-in-loop-name.result.now c.index.result.now)) (range_numbers c.args.program.now c.args.order.now) c.in_err-interval.field-0.0 c.in_err-interval.ensures.judged
     (λ (l : Placed) h. onward_lost c.args.program.now.items c.args.order.now.names (declared c.args.program.now.names) c.loop-name.boxes.items c.loop-name.name-index (get_or c.items-name-items.result.now c.loop-name.name-index 0) c.index.result.now l c.loop-name.invariant b n t.place
     (subst (λ (ts : List ProgItem). first_unfit (all_at c.index.result.now (asked_at c.loop-name.boxes.items ts c.index.result.now)) ≡ Some l) c.items-in-loop-name.ensures (subst (λ (bs : List Interval). first_unfit (all_at c.index.result.now (asked_at bs c.items-in-loop-name.result.now c.index.result.now)) ≡ Some l) c.deref.ensures.value h))))
+
+pub returns-clause-holds : goal.returns-clause-holds
+returns-clause-holds c =
+    let b : length c.args.order.now.names ≤ c.loop-name.name-index = rw (← c.items-name-items.ensures) c.loop-name-test.false in
+    let e = onward_end c.args.program.now.items c.args.order.now.names (declared c.args.program.now.names) c.loop-name.boxes.items c.loop-name.name-index c.loop-name.invariant b in
+    intervals_hold c.args.program.now c.args.order.now c.loop-name.boxes.items c.requires.program c.requires.order e.0

@@ -1,8 +1,8 @@
-use Rattle.std.proofs.Common.{◌≡◌, ◌<◌, length, ℕ, sym, ◌∙◌, ap, subst, List, None, Some, get_or, arith}
+use Rattle.std.proofs.Common.{◌≡◌, sym, ◌∙◌, ap, subst, List, None, Some, get_or, arith}
 use Rattle.hys_lin.specs.declared.lost.Lost.{Lost}
 use Rattle.hys_lin.specs.Operations.{first_lost}
 use Rattle.hys_prog.specs.declared.program.ProgItem.{ProgItem}
-use Rattle.hys_bound.specs.Ranges.{first_unfit, all_at, asked, asked_at}
+use Rattle.hys_bound.specs.Ranges.{asked_at}
 use Rattle.hys_bound.proofs.Turns.{interval_there, asked_there, unfit_none, unfit_some}
 use Rattle.hys_bound.proofs.along.interval_here.Goals as goal
 

@@ -1,6 +1,3 @@
-use Rattle.std.proofs.Common.{◌≡◌, ◌<◌, length, ℕ}
-use Rattle.hys_prog.specs.declared.program.Body.{Body}
-use Rattle.hys_bound.specs.Ranges.{EachAsked}
 use Rattle.hys_bound.proofs.ranges.interval_of.Goals as goal
 
 pub range_of-requires : goal.range_of-requires

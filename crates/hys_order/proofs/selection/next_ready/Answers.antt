@@ -1,6 +1,6 @@
 use Rattle.std.proofs.Common.{◌<◌, length, get_or}
 use Rattle.hys_order.specs.Links.{Ready, Untaken}
-use Rattle.hys_order.proofs.Members.{first_at}
+use Rattle.hys_prog.proofs.Members.{first_at}
 use Rattle.hys_order.proofs.Taken.{untaken_at}
 use Rattle.hys_order.proofs.selection.next_ready.Goals as goal
 
