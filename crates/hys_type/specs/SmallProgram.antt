@@ -39,7 +39,8 @@ small = record {
       ∷ declared section.Aux kind.Bool (codes "d") 8 None
       ∷ declared section.Aux kind.Bool (codes "e") 9 None
       ∷ [];
-  items = said section.Logic (Some (codes "d")) 10 (tree.Binary binary.Least (name (codes "x") 11) (digits (codes "1") 13) (spot 12))
+  items = said section.Logic (Some (codes "d")) 10 (tree.Binary binary.Least
+      (name (codes "x") 11) (digits (codes "1") 13) (spot 12))
       ∷ said section.Logic (Some (codes "e")) 14 (name (codes "b") 15)
       ∷ said section.Continuous (Some (codes "x")) 16 (tree.Binary binary.Add
       (tree.Binary binary.Mul (name (codes "p") 17) (name (codes "x") 19) (spot 18)) (digits (codes "1") 21) (spot 20))
@@ -71,7 +72,8 @@ small_by n = record {
 
 -- ---- the program
 abbrev named : List ℕ → Role → Kind → ℕ → Number → Number → Number → Name
-named n r k at low high a = record { text = n; role = r; kind = k; place = spot at; bounds = record { low = low; high = high }; value = a }
+named n r k at low high a =
+    record { text = n; role = r; kind = k; place = spot at; bounds = record { low = low; high = high }; value = a }
 
 abbrev item : Option ℕ → ℕ → Body → ProgItem
 item n at b = record { name = n; place = spot at; body = b }
