@@ -1,3 +1,11 @@
+-- Notes on the laws of translations.
+-- - `Agree` says that an assignment to texts and one to places give each declared name the same number. Every lemma on
+--   forms, formulas, bodies and items takes an `Agree` and gives `↔`, so one proof serves both directions and both views.
+-- - `form_sum`, a sum along the list of names, stands between: expressions equal it (FormSums), and so do sparse terms
+--   (FormPlaces), by a walk over the names whose place counts up and that drops the terms below it.
+-- - `IsBodyOf` has its equations as arguments: a lemma puts both bodies in by `subst₂` at once (`said_as`), and `cc` ends
+--   the cases that can't be, and takes equal constructors apart.
+-- - A concrete source with an unnamed guard: prove it with the guard's text a variable (`small_by`), then put `@1` in.
 pub mod Firsts
 pub mod Constants
 pub mod Walks
@@ -18,3 +26,4 @@ pub mod ProgramForms
 pub mod ProgramBodies
 pub mod ProgramWeight
 pub mod ProgramItems
+pub mod SmallTranslation

@@ -11,3 +11,4 @@ pub mod Translation
 pub mod Views
 pub mod Declaring
 pub mod SameMeaning
+pub mod SmallProgram

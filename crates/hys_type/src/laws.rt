@@ -1,6 +1,6 @@
 //! What holds of the definitions, as calls that do nothing.
 
-ghost use Rattle.std.specs.Prelude.{◌≡◌, ◌<◌, ℕ, List, [], ◌∷◌, Some, None, true, codes, length};
+ghost use Rattle.std.specs.Prelude.{◌≡◌, ◌<◌, ◌↔◌, ℕ, List, [], ◌∷◌, Some, None, true, codes, length};
 ghost use Rattle.std.specs.List.{AllByRecursion};
 ghost use Rattle.hys_number.specs.Ops.{◌<ₙ◌, whole};
 ghost use Rattle.hys_meaning.specs.Accepted.{KeepsRules};
@@ -22,6 +22,7 @@ ghost use Rattle.hys_prog.specs.declared.program.Program.{Program};
 ghost use Rattle.hys_type.specs.Translation.{IsTranslation};
 ghost use Rattle.hys_type.specs.Views.{by_places, by_texts};
 ghost use Rattle.hys_type.specs.SameMeaning.{Translates, StepsByPlaces, StepsByTexts, LegalByPlaces, LegalByTexts};
+ghost use Rattle.hys_type.specs.SmallProgram.{small, small_program};
 ghost use Rattle.hys_type.specs.Checks.{fault_of};
 ghost use Rattle.hys_type.specs.Examples.{spot, name, zero_at, ten_at, state, output, next, source, stepping};
 ghost use Rattle.hys_type.specs.declared.fault.TypeFault.TheVariants as fault;
@@ -56,16 +57,32 @@ pub fn first_faults()
 /// its text and in the program by its place. Going from one to the other and back keeps the number
 /// of each declared name.
 pub fn same_meaning()
-    ensures texts_again { (s : Source) (w : Assignment) (n : List ℕ) (m : Name) → look (names s) n ≡ Some m → by_texts (names s) (by_places (names s) w) n ≡ w n }
-    ensures places_again { (s : Source) (v : PlaceAssignment) (k : ℕ) → DeclaredOnce s → k < length (names s) → by_places (names s) (by_texts (names s) v) k ≡ v k }
-    ensures steps_by_places { (tolerance : Number) (s : Source) (p : Program) → Translates tolerance s p → StepsByPlaces (unfolded s) p }
-    ensures steps_by_texts { (tolerance : Number) (s : Source) (p : Program) → Translates tolerance s p → StepsByTexts (unfolded s) p }
-    ensures legal_by_places { (tolerance : Number) (s : Source) (p : Program) → Translates tolerance s p → LegalByPlaces tolerance (unfolded s) p }
-    ensures legal_by_texts { (tolerance : Number) (s : Source) (p : Program) → Translates tolerance s p → LegalByTexts tolerance (unfolded s) p }
+    ensures texts_again { (s : Source) (w : Assignment) (n : List ℕ) (m : Name) → look (names s) n ≡ Some m →
+        by_texts (names s) (by_places (names s) w) n ≡ w n }
+    ensures places_again { (s : Source) (v : PlaceAssignment) (k : ℕ) → DeclaredOnce s → k < length (names s) →
+        by_places (names s) (by_texts (names s) v) k ≡ v k }
+    ensures steps_by_places { (tolerance : Number) (s : Source) (p : Program) → Translates tolerance s p →
+        StepsByPlaces (unfolded s) p }
+    ensures steps_by_texts { (tolerance : Number) (s : Source) (p : Program) → Translates tolerance s p →
+        StepsByTexts (unfolded s) p }
+    ensures legal_by_places { (tolerance : Number) (s : Source) (p : Program) → Translates tolerance s p →
+        LegalByPlaces tolerance (unfolded s) p }
+    ensures legal_by_texts { (tolerance : Number) (s : Source) (p : Program) → Translates tolerance s p →
+        LegalByTexts tolerance (unfolded s) p }
 {}
 
 /// The translation of a source that keeps the rules is a program, where the declarations of the
 /// source are as they are read from a text and the tolerance is above 0.
 pub fn translations_are_programs()
-    ensures { (tolerance : Number) (s : Source) (p : Program) → IsTranslation tolerance s p → KeepsRules (unfolded s) → AllByRecursion IsDeclaration s.decls → whole 0 <ₙ tolerance → IsProgram p }
+    ensures { (tolerance : Number) (s : Source) (p : Program) → IsTranslation tolerance s p → KeepsRules (unfolded s) →
+        AllByRecursion IsDeclaration s.decls → whole 0 <ₙ tolerance → IsProgram p }
+{}
+
+/// A small program is the translation of a small source with an unnamed guard, parameters of both
+/// kinds and both kinds of demands, just where its guard has the tolerance that is asked for and
+/// the factor is the parameter's value. The source is typed.
+pub fn small_translation()
+    ensures typed { (tolerance : Number) → Translates tolerance small (small_program tolerance (whole 2)) }
+    ensures only { (tolerance eps factor : Number) →
+        IsTranslation tolerance small (small_program eps factor) ↔ ((eps ≡ tolerance) × (factor ≡ whole 2)) }
 {}
