@@ -6,3 +6,5 @@ pub mod Numbers
 pub mod Knowing
 pub mod Ends
 pub mod Zips
+pub mod Operands
+pub mod Operators

@@ -6,5 +6,6 @@ pub mod Walks
 pub mod Declarations
 pub mod Checks
 pub mod Dense
+pub mod Operands
 pub mod Examples
 pub mod Translation

@@ -9,7 +9,9 @@ mod fault;
 mod kinds;
 pub mod laws;
 mod missing;
+mod node;
 mod parameters;
+mod scope;
 
 pub use bounds::boxes;
 pub use constant::{Constant, Known, evaluate};
@@ -18,4 +20,6 @@ pub use dense::{Dense, fold, is_constant, spread};
 pub use fault::TypeFault;
 pub use kinds::evaluate_as;
 pub use missing::check_all_defined;
+pub use node::{Node, folded};
 pub use parameters::known_names;
+pub use scope::{Declared, look};
