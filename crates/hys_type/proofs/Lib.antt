@@ -8,3 +8,4 @@ pub mod Ends
 pub mod Zips
 pub mod Operands
 pub mod Operators
+pub mod Rights

@@ -120,7 +120,7 @@ negated_is ns f d h = record { factors = ap (map neg) h.factors ∙ over ns; con
     over [] = refl
     over (n ∷ ns) = ap (λ xs. neg (f.factor n.text) ∷ xs) (over ns)
 
-sort_is : (ns : List Name) (e : Tree) (o : Node) → IsNode ns e o → sort ns e ≡ node_sort o
+pub sort_is : (ns : List Name) (e : Tree) (o : Node) → IsNode ns e o → sort ns e ≡ node_sort o
 sort_is ns e (node.Real d) h = h.0
 sort_is ns e node.Bool h = h
 sort_is ns e node.Neither h = h

@@ -70,6 +70,10 @@ abbrev pub output_checks : List Name → Option Name → Tree → List Check
 output_checks ns (Some n) e = of_kind n.kind ns e
 output_checks ns None e = []
 
+-- a comparison or a formula may be demanded
+abbrev pub demanded : List Name → Tree → Bool
+demanded ns e = cond (has_top is_comparison e) true (is_bool (sort ns e))
+
 abbrev pub left_name : List Name → Option (List ℕ) → Option Name
 left_name ns (Some n) = look ns n
 left_name ns None = None
@@ -83,7 +87,7 @@ right_checks c n p (body.Linear e) = of_kind kind.Real c.names e
 right_checks c n p (body.NextBool e) = of_kind kind.Bool c.names e
 right_checks c n p (body.NextReal e) = of_kind kind.Real c.names e
 right_checks c n p (body.Output e) = output_checks c.names n e
-right_checks c n p (body.Must e) = expression c.names (λ e. cond (has_top is_comparison e) true (is_bool (sort c.names e))) e
+right_checks c n p (body.Must e) = expression c.names (demanded c.names) e
 right_checks c n p body.Nothing = []
 
 abbrev pub item_checks : Scope → List Item → Item → List Check

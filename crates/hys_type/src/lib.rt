@@ -11,6 +11,7 @@ pub mod laws;
 mod missing;
 mod node;
 mod parameters;
+mod right;
 mod scope;
 
 pub use bounds::boxes;
