@@ -56,7 +56,7 @@ one_box ks vs ws ds i d b h e v o w =
     w ∙ ap (λ xs. xs ++ b ∷ []) v ∙ ap (λ x. map (box_of ks) (map decl_of (take i ds)) ++ x ∷ []) o ∙ sym (map_push (box_of ks) (map decl_of (take i ds)) (decl_of d)) ∙ ap (map (box_of ks)) (sym (longer decl_of ds i d h e))
 
 -- ---- items that define a name
-any_item : (n : List ℕ) (is : List Item) → list_any (λ i. defines n i.name) (map item_of is) ≡ list_any (λ i. defines n i.name) is
+pub any_item : (n : List ℕ) (is : List Item) → list_any (λ i. defines n i.name) (map item_of is) ≡ list_any (λ i. defines n i.name) is
 any_item n [] = refl
 any_item n (i ∷ is) = ap (λ (b : Bool). defines n i.name || b) (any_item n is)
 

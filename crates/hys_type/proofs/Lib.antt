@@ -9,3 +9,4 @@ pub mod Zips
 pub mod Operands
 pub mod Operators
 pub mod Rights
+pub mod Items

@@ -1,7 +1,7 @@
 -- The checks of a source, in the order in which a fault counts: the fault of a source is that of the first check
 -- that fails. It says what is checked, never how.
 use Rattle.std.specs.Prelude.{ℕ, List, [], ◌∷◌, ◌++◌, Option, Some, None, Bool, true, false, not, cond}
-use Rattle.std.specs.List.{list_any}
+use Rattle.std.specs.List.{list_any, AllByRecursion}
 use Rattle.std.specs.declared.cmp.Ordering.{Ordering}
 use Rattle.std.specs.declared.cmp.Ordering.TheVariants.{Less, Equal, Greater}
 use Rattle.hys_number.specs.Ops.{whole}
@@ -10,7 +10,7 @@ use Rattle.hys_ast.specs.declared.place.Place.{Place}
 use Rattle.hys_ast.specs.declared.tree.BinaryOp.{BinaryOp}
 use Rattle.hys_ast.specs.declared.source.Kind.{Kind}
 use Rattle.hys_ast.specs.declared.source.Kind.TheVariants as kind
-use Rattle.hys_ast.specs.Tree.{Tree, Decl, Item, Source}
+use Rattle.hys_ast.specs.Tree.{Tree, Decl, Shape, Item, Source}
 use Rattle.hys_ast.specs.Tree as tree
 use Rattle.hys_meaning.specs.Values.{value}
 use Rattle.hys_meaning.specs.Names.{Name, names, look}
@@ -19,10 +19,10 @@ use Rattle.hys_meaning.specs.Bodies as body
 use Rattle.hys_meaning.specs.Unfolded.{is_inequality}
 use Rattle.hys_meaning.specs.Typed.{is_comparison, suits, defines, is_defined}
 use Rattle.hys_type.specs.Sorts.{is_bool}
-use Rattle.hys_type.specs.Constants.{known_values}
+use Rattle.hys_type.specs.Constants.{known_values, HasLiterals}
 use Rattle.hys_type.specs.Nodes.{is_declared, sort, node_checks}
 use Rattle.hys_type.specs.Walks.{walk}
-use Rattle.hys_type.specs.Declarations.{name_checks, place_of, is_of_kind, constant_of_kind, if_some, known, value_checks, box_checks}
+use Rattle.hys_type.specs.Declarations.{name_checks, place_of, is_of_kind, constant_of_kind, if_some, known, value_checks, box_checks, HaveLiterals, HasValueLiterals, HasBoundLiterals}
 use Rattle.hys_type.specs.Faults.{Check, check, first_fault}
 use Rattle.hys_type.specs.declared.constant.Known.{Known}
 use Rattle.hys_type.specs.declared.fault.TypeFault.{TypeFault}
@@ -33,6 +33,9 @@ use Rattle.hys_type.specs.declared.fault.TypeFault.TheVariants as fault
 pub record Scope : Type 0 where
   pub names : List Name
   pub known : List Known
+
+abbrev pub scoped : List Name → List Known → Scope
+scoped ns ks = record { names = ns; known = ks }
 
 -- the left name is declared, suits the section, and no item before defines it
 abbrev pub left_checks : List Name → List Item → Item → List ℕ → List Check
@@ -113,3 +116,18 @@ checks s =
 -- the fault of a source, where it has one
 abbrev pub fault_of : Source → Option TypeFault
 fault_of s = first_fault (checks s)
+
+-- ---- literals
+abbrev pub HaveShapeLiterals : Shape → Type 0
+HaveShapeLiterals (tree.Plain e) = HasLiterals e
+HaveShapeLiterals (tree.Wide e t) = HasLiterals e × HasLiterals t
+HaveShapeLiterals (tree.Choice a b o) = HasLiterals a × (HasLiterals b × HaveLiterals o)
+
+abbrev pub HasItemLiterals : Item → Type 0
+HasItemLiterals i = HaveShapeLiterals i.shape
+
+-- each literal of the source is read as what it is
+pub record HasSourceLiterals (s : Source) : Type 0 where
+  pub values : AllByRecursion HasValueLiterals s.decls
+  pub bounds : AllByRecursion HasBoundLiterals s.decls
+  pub items : AllByRecursion HasItemLiterals s.items
