@@ -10,3 +10,12 @@ pub mod Operands
 pub mod Operators
 pub mod Rights
 pub mod Items
+pub mod KnownValues
+pub mod Agree
+pub mod FormSums
+pub mod FormPlaces
+pub mod FormulaTruths
+pub mod SameBodies
+pub mod SameSteps
+pub mod ProgramNames
+pub mod ProgramForms

@@ -9,3 +9,5 @@ pub mod Dense
 pub mod Operands
 pub mod Examples
 pub mod Translation
+pub mod Views
+pub mod Declaring

@@ -7,6 +7,18 @@ ghost use Rattle.hys_meaning.specs.Folding.{each, matched};
 ghost use Rattle.hys_lin.specs.declared.lost.Op.{Op};
 ghost use Rattle.hys_ast.specs.Tree as tree;
 ghost use Rattle.hys_ast.specs.declared.tree.BinaryOp.TheVariants as binary;
+ghost use Rattle.hys_number.specs.Number.{Number};
+ghost use Rattle.hys_lin.specs.Sums.{Assignment as PlaceAssignment};
+ghost use Rattle.hys_ast.specs.Tree.{Source};
+ghost use Rattle.hys_meaning.specs.Values.{Assignment};
+ghost use Rattle.hys_meaning.specs.Names.{names};
+ghost use Rattle.hys_meaning.specs.Typed.{DeclaredOnce, Typed};
+ghost use Rattle.hys_meaning.specs.Unfolded.{unfolded};
+ghost use Rattle.hys_meaning.specs.Steps as source_steps;
+ghost use Rattle.hys_prog.specs.declared.program.Program.{Program};
+ghost use Rattle.hys_prog.specs.Steps as program_steps;
+ghost use Rattle.hys_type.specs.Translation.{IsTranslation};
+ghost use Rattle.hys_type.specs.Views.{by_places, by_texts};
 ghost use Rattle.hys_type.specs.Checks.{fault_of};
 ghost use Rattle.hys_type.specs.Examples.{spot, name, zero_at, ten_at, state, output, next, source, stepping};
 ghost use Rattle.hys_type.specs.declared.fault.TypeFault.TheVariants as fault;
@@ -34,4 +46,14 @@ pub fn first_faults()
     ensures not_constant { fault_of (source (state (name (codes "x") 2) (ten_at 3) ∷ []) []) ≡ Some (fault.Kind (spot 2)) }
     ensures an_output { fault_of (source (state (zero_at 2) (ten_at 3) ∷ output ∷ []) (next (name (codes "y") 6) ∷ [])) ≡ Some (fault.Kind (spot 6)) }
     ensures defined_twice { fault_of (source (state (zero_at 2) (ten_at 3) ∷ []) (next (zero_at 6) ∷ next (zero_at 7) ∷ [])) ≡ Some (fault.DefinedTwice (spot 5)) }
+{}
+
+/// A program that is the translation of a source has its meaning: the legal steps of the one are
+/// those of the other, with the numbers of the declared names by their texts in the source and by
+/// their places in the program.
+pub fn same_meaning()
+    ensures by_places { (tolerance : Number) (s : Source) (p : Program) → IsTranslation tolerance s p → DeclaredOnce (unfolded s) → Typed (unfolded s) → (x u : List Number) (w : Assignment) (x' y : List Number) →
+        source_steps.Legal tolerance (unfolded s) x u w x' y → program_steps.Legal p x u (by_places (names (unfolded s)) w) x' y }
+    ensures by_texts { (tolerance : Number) (s : Source) (p : Program) → IsTranslation tolerance s p → DeclaredOnce (unfolded s) → Typed (unfolded s) → (x u : List Number) (v : PlaceAssignment) (x' y : List Number) →
+        program_steps.Legal p x u v x' y → source_steps.Legal tolerance (unfolded s) x u (by_texts (names (unfolded s)) v) x' y }
 {}
