@@ -1,11 +1,9 @@
 -- Assignments to texts and to places that give each declared name the same number.
-use Rattle.std.proofs.Common.{◌≡◌, ℕ, zero, suc, ◌+◌, List, [], ◌∷◌, Option, Some, None, Bool, true, false, map, cond, get_or, refl, sym, ◌∙◌, ap, subst, arith}
+use Rattle.std.proofs.Common.{◌≡◌, ℕ, suc, ◌+◌, List, [], ◌∷◌, Some, None, Bool, true, false, map, cond, get_or, refl, sym, ◌∙◌, ap, subst, arith}
 use Rattle.std.specs.Str.{bytes_eq}
-use Rattle.std.specs.List.{AllByRecursion, find}
-use Rattle.hys_number.specs.Number.{Number}
+use Rattle.std.specs.List.{AllByRecursion}
 use Rattle.hys_number.specs.Ops.{whole}
 use Rattle.hys_base.specs.Differ.{Apart, Differ}
-use Rattle.hys_lin.specs.Sums.{at}
 use Rattle.hys_lin.specs.Sums.{Assignment as PlaceAssignment}
 use Rattle.hys_meaning.specs.Values.{Assignment}
 use Rattle.hys_meaning.specs.Names.{Name, look}

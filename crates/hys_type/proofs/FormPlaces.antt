@@ -1,5 +1,5 @@
 -- The value of a form by places is the sum of the form that it stands for over the declared names.
-use Rattle.std.proofs.Common.{◌≡◌, ℕ, zero, suc, ◌+◌, ◌<◌, ◌≤◌, List, [], ◌∷◌, Bool, true, false, cond, length, refl, sym, ◌∙◌, ap, ap₂, subst, arith, eqb, eqb→eq, T}
+use Rattle.std.proofs.Common.{◌≡◌, ℕ, suc, ◌+◌, ◌<◌, ◌≤◌, List, [], ◌∷◌, Bool, true, false, cond, length, refl, sym, ◌∙◌, ap, ap₂, subst, arith, eqb, eqb→eq, T}
 use Rattle.std.specs.Prelude.{nat_eq}
 use Rattle.std.proofs.Math.Dec.{eqb_refl}
 use Rattle.hys_number.specs.Number.{Number}

@@ -1,5 +1,5 @@
 -- The truth of a formula by places is that of the expression that it stands for.
-use Rattle.std.proofs.Common.{◌≡◌, ℕ, List, Option, Some, None, Bool, true, false, ◌&&◌, ◌||◌, not, cond, refl, sym, ◌∙◌, ap, ap₂}
+use Rattle.std.proofs.Common.{◌≡◌, ℕ, List, Option, Some, None, Bool, true, false, not, cond, refl, sym, ◌∙◌, ap, ap₂}
 use Rattle.std.specs.Prelude.{IsTrue}
 use Rattle.hys_lin.specs.Bits.{is_one}
 use Rattle.hys_lin.specs.Sums.{Assignment as PlaceAssignment}

@@ -19,3 +19,4 @@ pub mod SameBodies
 pub mod SameSteps
 pub mod ProgramNames
 pub mod ProgramForms
+pub mod Unboxed

@@ -1,11 +1,10 @@
 -- The forms and formulas of a program name states, inputs and auxiliaries.
-use Rattle.std.proofs.Common.{◌≡◌, ℕ, zero, suc, ◌+◌, ◌<◌, ◌≤◌, List, [], ◌∷◌, Option, Some, None, Bool, true, false, ◌&&◌, not, inl, inr, map, cond, length, refl, sym, ◌∙◌, ap, ap₂, subst, arith}
-use Rattle.std.specs.Prelude.{IsTrue, nat_eq}
+use Rattle.std.proofs.Common.{◌≡◌, ℕ, zero, suc, ◌+◌, ◌<◌, List, [], ◌∷◌, Option, Some, None, Bool, true, false, ◌&&◌, not, map, cond, length, refl, sym, ◌∙◌, ap, ap₂, subst, arith}
+use Rattle.std.specs.Prelude.{IsTrue}
 use Rattle.std.specs.Str.{bytes_eq}
 use Rattle.std.specs.List.{AllByRecursion}
-use Rattle.std.proofs.Math.Path.{subst₂}
 use Rattle.hys_number.specs.Number.{Number}
-use Rattle.hys_number.specs.Ops.{◌+ₙ◌, ◌*ₙ◌, ◌-ₙ◌, ◌/ₙ◌, ◌<ₙ◌, neg, inverse, whole}
+use Rattle.hys_number.specs.Ops.{◌+ₙ◌, ◌*ₙ◌, ◌-ₙ◌, ◌/ₙ◌, neg, inverse, whole}
 use Rattle.hys_number.proofs.Ring.{by_ring, v, k, minus, ◌⊕◌, ◌⊗◌, ◌⊖◌}
 use Rattle.hys_base.specs.Differ.{Apart, Differ}
 use Rattle.hys_lin.specs.declared.form.Term.{Term}
@@ -13,7 +12,6 @@ use Rattle.hys_lin.specs.declared.form.Affine.{Affine}
 use Rattle.hys_lin.specs.Sums.{AreTerms, EachColumn}
 use Rattle.hys_lin.specs.Bits.{is_one}
 use Rattle.hys_lin.specs.Scaled.{coefficient}
-use Rattle.hys_lin.proofs.Lists.{each_more}
 use Rattle.hys_ast.specs.declared.source.Section.{Section}
 use Rattle.hys_ast.specs.declared.source.Section.TheVariants as section
 use Rattle.hys_ast.specs.declared.source.Kind.{Kind}
@@ -26,12 +24,11 @@ use Rattle.hys_ast.specs.Tree.{Tree, Decl}
 use Rattle.hys_ast.specs.Tree as tree
 use Rattle.hys_meaning.specs.Values.{Assignment, signed}
 use Rattle.hys_meaning.specs.Names.{Name, name_of, look, is_parameter, is_output}
-use Rattle.hys_meaning.specs.Forms.{Form, form, combined, looked_up, parameter_or, guard_form, guard_between, number_form}
-use Rattle.hys_meaning.specs.Typed.{IsReal, IsFormula, IsComparison, IsMaybe, may_stand, is_real, is_bool, is_negation, is_connective}
+use Rattle.hys_meaning.specs.Forms.{Form, form, combined, looked_up, parameter_or, guard_form, guard_between}
+use Rattle.hys_meaning.specs.Typed.{IsReal, IsFormula, IsComparison, IsMaybe, may_stand, is_real, is_bool}
 use Rattle.hys_meaning.specs.Unfolded.{is_inequality}
 use Rattle.hys_formula.specs.declared.formula.Formula.{Formula}
-use Rattle.hys_formula.specs.Formulas.{EachName, FormulaTree, constant, named, tree_of}
-use Rattle.hys_prog.specs.declared.program.Role.{Role}
+use Rattle.hys_formula.specs.Formulas.{EachName, FormulaTree, constant, named}
 use Rattle.hys_prog.specs.declared.program.Name.{Name as ProgName}
 use Rattle.hys_prog.specs.Programs.{NameAt, IsVariable, IsBooleanVariable, FormOver, FormulaOver, has_column}
 use Rattle.hys_type.specs.Translation.{place_in, role_in, IsNameOf, OneByOne, HaveFactors, IsFormOf, IsFormulaOf, else_form, difference_form, formula, name_formula, signed_by, joined_by, connective_of}
@@ -206,8 +203,8 @@ pub form_over : (u : Assignment) (ds : List Decl) (xs : List ProgName) (g : Form
 form_over u ds xs g f a h o i = (
   i.terms.rise,
   each_both (λ c. c < length (map (name_of u) ds)) (λ c. ¬ (coefficient f.terms c ≡ whole 0)) (λ c. NameAt xs c IsVariable)
-  (λ c l z. at_column u 0 ds xs g f.terms h i.factors (only_declared g (map (name_of u) ds) (map (name_of u) ds) o (look_own (map (name_of u) ds) a)) c c (omega arith) l z)
-  f.terms i.terms.below (own_factor f.terms i.terms.rise),
+      (λ c l z. at_column u 0 ds xs g f.terms h i.factors (only_declared g (map (name_of u) ds) (map (name_of u) ds) o (look_own (map (name_of u) ds) a)) c c (omega arith) l z)
+      f.terms i.terms.below (own_factor f.terms i.terms.rise),
 )
 
 -- ---- formulas

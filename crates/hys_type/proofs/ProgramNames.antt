@@ -1,7 +1,6 @@
 -- The names of the program of a source that keeps the rules.
-use Rattle.std.proofs.Common.{◌≡◌, ℕ, zero, suc, ◌+◌, List, [], ◌∷◌, Option, Some, None, Bool, true, false, ◌||◌, ◌&&◌, ◌⊎◌, inl, inr, map, cond, refl, sym, ◌∙◌, ap, ap₂, subst}
+use Rattle.std.proofs.Common.{◌≡◌, ℕ, ◌+◌, List, [], ◌∷◌, Option, Some, None, Bool, true, false, ◌||◌, ◌&&◌, inl, inr, map, cond, refl, sym, ◌∙◌, ap, ap₂, subst}
 use Rattle.std.specs.Prelude.{IsTrue, All}
-use Rattle.std.specs.Str.{bytes_eq}
 use Rattle.std.specs.List.{AllByRecursion, count_by}
 use Rattle.std.proofs.Math.Path.{subst₂}
 use Rattle.std.proofs.lemmas.List.Elements.{All-from_recursion}
@@ -16,18 +15,16 @@ use Rattle.hys_ast.specs.declared.source.Section.TheVariants as section
 use Rattle.hys_ast.specs.declared.source.Kind.{Kind}
 use Rattle.hys_ast.specs.declared.source.Kind.TheVariants as kind
 use Rattle.hys_ast.specs.Tree.{Tree, Decl}
-use Rattle.hys_meaning.specs.Values.{Assignment, value, truth, given}
-use Rattle.hys_meaning.specs.Names.{name_of, is_parameter, is_state, is_input, set_to, with_value, valued, parameters, end_of}
+use Rattle.hys_meaning.specs.Values.{Assignment, truth, given}
+use Rattle.hys_meaning.specs.Names.{is_parameter, is_state, is_input, with_value, valued, parameters, end_of}
 use Rattle.hys_meaning.specs.Typed.{has_value, has_box, is_real, IsBox}
 use Rattle.hys_meaning.specs.Weight.{has_column}
-use Rattle.hys_prog.specs.declared.program.Role.{Role}
-use Rattle.hys_prog.specs.declared.program.Role.TheVariants as role
 use Rattle.hys_prog.specs.declared.program.Name.{Name as ProgName}
 use Rattle.hys_prog.specs.Programs.{KeepsRole, IsBoxOf, IsValueOf, IsNameText, text_of, names_weight}
 use Rattle.hys_prog.specs.Programs as program
 use Rattle.hys_type.specs.Translation.{role_in, IsNameOf, OneByOne}
 use Rattle.hys_type.specs.Declaring.{declares}
-use Rattle.hys_type.proofs.KnownValues.{declared_texts, differ_texts, own_text, other_text}
+use Rattle.hys_type.proofs.KnownValues.{declared_texts, own_text, other_text}
 
 -- ---- values of Boolean parameters
 bit_is : (b : Bool) → IsBit (bit b)
@@ -49,8 +46,10 @@ HasBit w d = IsTrue (is_parameter d.section) → d.kind ≡ kind.Bool → IsBit 
 
 bits_from : (w : Assignment) (ds : List Decl) → Differ (declared_texts ds) → AllByRecursion (λ d. IsTrue (is_parameter d.section) → IsTrue (has_value d.value)) ds → AllByRecursion (HasBit (valued w ds)) ds
 bits_from w [] a h = tt
-bits_from w (d ∷ ds) a h = (λ p k. subst IsBit (sym (kept_value d.name ds (with_value (is_parameter d.section) d.kind d.name d.value w) a.0)) (go (is_parameter d.section) d.kind d.value p k (h.0 p)),
-    bits_from (with_value (is_parameter d.section) d.kind d.name d.value w) ds a.1 h.1)
+bits_from w (d ∷ ds) a h = (
+  λ p k. subst IsBit (sym (kept_value d.name ds (with_value (is_parameter d.section) d.kind d.name d.value w) a.0)) (go (is_parameter d.section) d.kind d.value p k (h.0 p)),
+  bits_from (with_value (is_parameter d.section) d.kind d.name d.value w) ds a.1 h.1,
+)
   where
     go : (b : Bool) (k : Kind) (o : Option Tree) → IsTrue b → k ≡ kind.Bool → IsTrue (has_value o) → IsBit (with_value b k d.name o w d.name)
     go true kind.Bool (Some e) p q r = subst (λ b. IsBit (cond b (bit (truth w e)) (w d.name))) (sym (own_text d.name)) (bit_is (truth w e))

@@ -1,5 +1,5 @@
 -- The body of a program's item says by places what the item of the source says by texts.
-use Rattle.std.proofs.Common.{◌≡◌, ℕ, List, [], ◌∷◌, Option, Some, None, Bool, true, false, ◌⊎◌, inl, inr, ◌↔◌, map, cond, refl, sym, ◌∙◌, ap, ap₂, subst, arith}
+use Rattle.std.proofs.Common.{◌≡◌, ℕ, List, [], ◌∷◌, Option, Some, None, Bool, true, false, ◌⊎◌, inl, inr, ◌↔◌, cond, refl, sym, ◌∙◌, ap, ap₂, subst, arith}
 use Rattle.std.specs.Prelude.{IsTrue, filter}
 use Rattle.std.specs.List.{AllByRecursion}
 use Rattle.std.proofs.Math.Path.{subst₂}
@@ -14,12 +14,11 @@ use Rattle.hys_lin.specs.Sums.{Assignment as PlaceAssignment, value as form_valu
 use Rattle.hys_ast.specs.declared.place.Place.{Place}
 use Rattle.hys_ast.specs.declared.source.Kind.{Kind}
 use Rattle.hys_ast.specs.declared.source.Kind.TheVariants as kind
-use Rattle.hys_ast.specs.declared.tree.UnaryOp.{UnaryOp}
 use Rattle.hys_ast.specs.declared.tree.BinaryOp.{BinaryOp}
 use Rattle.hys_ast.specs.declared.tree.BinaryOp.TheVariants as binary
 use Rattle.hys_ast.specs.Tree.{Tree}
 use Rattle.hys_ast.specs.Tree as tree
-use Rattle.hys_meaning.specs.Values.{Assignment, value, truth, given, guard_number, signed, computed, guard_of}
+use Rattle.hys_meaning.specs.Values.{Assignment, value, truth, given, guard_number, signed, computed}
 use Rattle.hys_meaning.specs.Names.{Name, look, is_parameter}
 use Rattle.hys_meaning.specs.Forms.{form, guard_form}
 use Rattle.hys_meaning.specs.Bodies as said
@@ -36,7 +35,7 @@ use Rattle.hys_prog.specs.Steps as program
 use Rattle.hys_type.specs.Checks.{has_top}
 use Rattle.hys_type.specs.Translation.{Setting, IsFormOf, IsFormulaOf, IsBodyOf, guard, choice, logic, linear, next_bool, next_real, out_bool, out_real, must_hold, must_most, must_zero, else_form, difference_form, kind_of}
 use Rattle.hys_type.proofs.Agree.{Agree, texts_of, found_name}
-use Rattle.hys_type.proofs.FormSums.{HasParameters, form_number, real_number, guard_value, difference_value, constant_number}
+use Rattle.hys_type.proofs.FormSums.{HasParameters, real_number, guard_value, difference_value, constant_number}
 use Rattle.hys_type.proofs.FormPlaces.{value_places}
 use Rattle.hys_type.proofs.FormulaTruths.{truth_places}
 

@@ -1,5 +1,5 @@
 -- A step of a source by texts is a step of its program by places, and the other way round.
-use Rattle.std.proofs.Common.{◌≡◌, ℕ, zero, suc, List, [], ◌∷◌, Option, Some, None, Bool, true, false, ◌||◌, ◌↔◌, map, cond, refl, sym, ◌∙◌, ap, ap₂, subst}
+use Rattle.std.proofs.Common.{◌≡◌, ℕ, suc, List, [], ◌∷◌, Option, Some, None, Bool, true, false, ◌||◌, ◌↔◌, map, cond, refl, sym, ◌∙◌, ap, ap₂, subst}
 use Rattle.std.specs.Prelude.{IsTrue, filter}
 use Rattle.std.specs.List.{AllByRecursion}
 use Rattle.std.proofs.Math.Path.{subst₂}
@@ -7,7 +7,6 @@ use Rattle.hys_number.specs.Number.{Number}
 use Rattle.hys_number.specs.Ops.{◌≤ₙ◌}
 use Rattle.hys_base.specs.Differ.{Differ}
 use Rattle.hys_lin.specs.Bits.{IsBit}
-use Rattle.hys_lin.specs.Sums.{Within}
 use Rattle.hys_lin.specs.Sums.{Assignment as PlaceAssignment}
 use Rattle.hys_ast.specs.declared.source.Section.{Section}
 use Rattle.hys_ast.specs.declared.source.Section.TheVariants as section
@@ -17,13 +16,11 @@ use Rattle.hys_ast.specs.Tree.{Decl, Item, Source}
 use Rattle.hys_meaning.specs.Values.{Assignment}
 use Rattle.hys_meaning.specs.Names.{Name, names, name_of, parameters, look, texts, is_state, is_input, is_output, is_parameter}
 use Rattle.hys_meaning.specs.Bodies.{body}
-use Rattle.hys_meaning.specs.Bodies as said
-use Rattle.hys_meaning.specs.Typed.{differ, DeclaredOnce, Typed, ItemTyped, LeftTyped, RightTyped, left, suits}
+use Rattle.hys_meaning.specs.Typed.{DeclaredOnce, Typed, ItemTyped, LeftTyped, RightTyped, left, suits}
 use Rattle.hys_meaning.specs.Steps.{is_given}
 use Rattle.hys_meaning.specs.Steps as source
 use Rattle.hys_prog.specs.declared.program.Role.{Role}
 use Rattle.hys_prog.specs.declared.program.Name.{Name as ProgName}
-use Rattle.hys_prog.specs.declared.program.Body.{Body}
 use Rattle.hys_prog.specs.declared.program.ProgItem.{ProgItem}
 use Rattle.hys_prog.specs.declared.program.Program.{Program}
 use Rattle.hys_prog.specs.Programs.{EachItem}

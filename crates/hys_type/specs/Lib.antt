@@ -11,3 +11,4 @@ pub mod Examples
 pub mod Translation
 pub mod Views
 pub mod Declaring
+pub mod Made
