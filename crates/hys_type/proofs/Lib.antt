@@ -20,3 +20,4 @@ pub mod SameSteps
 pub mod ProgramNames
 pub mod ProgramForms
 pub mod Unboxed
+pub mod Wholes

@@ -1,6 +1,6 @@
 -- The checks of a source, in the order in which a fault counts: the fault of a source is that of the first check
 -- that fails. It says what is checked, never how.
-use Rattle.std.specs.Prelude.{ℕ, List, [], ◌∷◌, ◌++◌, Option, Some, None, Bool, true, false, not, cond}
+use Rattle.std.specs.Prelude.{ℕ, List, [], ◌∷◌, ◌++◌, Option, Some, None, Bool, true, false, not, cond, map}
 use Rattle.std.specs.List.{list_any, AllByRecursion}
 use Rattle.std.specs.declared.cmp.Ordering.{Ordering}
 use Rattle.std.specs.declared.cmp.Ordering.TheVariants.{Less, Equal, Greater}
@@ -13,7 +13,7 @@ use Rattle.hys_ast.specs.declared.source.Kind.TheVariants as kind
 use Rattle.hys_ast.specs.Tree.{Tree, Decl, Shape, Item, Source}
 use Rattle.hys_ast.specs.Tree as tree
 use Rattle.hys_meaning.specs.Values.{value}
-use Rattle.hys_meaning.specs.Names.{Name, names, look}
+use Rattle.hys_meaning.specs.Names.{Name, name_of, parameters, look}
 use Rattle.hys_meaning.specs.Bodies.{Body, body}
 use Rattle.hys_meaning.specs.Bodies as body
 use Rattle.hys_meaning.specs.Unfolded.{is_inequality}
@@ -101,8 +101,12 @@ abbrev pub missing_checks : List Item → Decl → List Check
 missing_checks is d = cond (is_defined d.section) (check (list_any (λ i. defines d.name i.name) is) (fault.Missing d.name) ∷ []) []
 
 -- ---- the whole
+-- what items may name behind these declarations
+abbrev pub scope_by : List Decl → Scope
+scope_by ds = record { names = map (name_of (parameters ds)) ds; known = known ds ds }
+
 abbrev pub scope : Source → Scope
-scope s = record { names = names s; known = known s.decls s.decls }
+scope s = scope_by s.decls
 
 -- Declarations; values of parameters; boxes; items; names that no item defines: each in the order of the source.
 abbrev pub checks : Source → List Check
@@ -131,3 +135,7 @@ pub record HasSourceLiterals (s : Source) : Type 0 where
   pub values : AllByRecursion HasValueLiterals s.decls
   pub bounds : AllByRecursion HasBoundLiterals s.decls
   pub items : AllByRecursion HasItemLiterals s.items
+
+-- the checks of declarations and items; the name of the system has none
+abbrev pub checks_by : List Decl → List Item → List Check
+checks_by ds is = checks (record { system = []; decls = ds; items = is })
