@@ -21,3 +21,5 @@ pub mod ProgramNames
 pub mod ProgramForms
 pub mod Unboxed
 pub mod Wholes
+pub mod SparseForms
+pub mod Guards

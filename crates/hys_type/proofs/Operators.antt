@@ -58,7 +58,7 @@ zip_of h (n ∷ ns) f g = ap (λ xs. h (f n.text) (g n.text) ∷ xs) (zip_of h n
 zipped_are : (o : Op) (ns : List Name) (f g : List ℕ → Number) (xs ys : List Number) → xs ≡ map (λ (n : Name). f n.text) ns → ys ≡ map (λ (n : Name). g n.text) ns → zipped (result_of o) xs ys ≡ map (λ (n : Name). result_of o (f n.text) (g n.text)) ns
 zipped_are o ns f g xs ys h k = ap₂ (zipped (result_of o)) h k ∙ zip_of (result_of o) ns f g
 
-folded_is : (o : Op) (ns : List Name) (f g k : Form) (d e : Dense) → IsDense ns f d → IsDense ns g e → map (λ (n : Name). result_of o (f.factor n.text) (g.factor n.text)) ns ≡ map (λ (n : Name). k.factor n.text) ns → result_of o f.constant g.constant ≡ k.constant → IsDense ns k (folded_form o d e)
+pub folded_is : (o : Op) (ns : List Name) (f g k : Form) (d e : Dense) → IsDense ns f d → IsDense ns g e → map (λ (n : Name). result_of o (f.factor n.text) (g.factor n.text)) ns ≡ map (λ (n : Name). k.factor n.text) ns → result_of o f.constant g.constant ≡ k.constant → IsDense ns k (folded_form o d e)
 folded_is o ns f g k d e h i x y = record { factors = zipped_are o ns f.factor g.factor d.factors e.factors h.factors i.factors ∙ x; constant = ap₂ (result_of o) h.constant i.constant ∙ y }
 
 abbrev spread_form : Form → Form

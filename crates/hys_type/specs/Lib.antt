@@ -12,3 +12,4 @@ pub mod Translation
 pub mod Views
 pub mod Declaring
 pub mod Made
+pub mod Built

@@ -2,6 +2,7 @@
 #![tactic(auto)]
 
 mod bounds;
+mod built;
 mod constant;
 mod declared;
 mod dense;
@@ -17,6 +18,7 @@ mod parameters;
 mod right;
 mod scope;
 
+pub use built::{Guard, affine, difference, guard_number, sparse};
 pub use constant::{Constant, Known, evaluate};
 pub use declared::check_names;
 pub use dense::{Dense, fold, is_constant, spread};

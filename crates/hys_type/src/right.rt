@@ -80,7 +80,7 @@ pub fn check_formula(alloc: Global, scope: &[Declared], whole: &Expr) -> Result<
     check_top(is_formula(&found), place_of(whole))
 }
 
-fn is_inequality(op: BinaryOp) -> bool
+pub fn is_inequality(op: BinaryOp) -> bool
     ensures { result ≡ is_inequality op }
 {
     matches!(op, BinaryOp::Most | BinaryOp::Least)
