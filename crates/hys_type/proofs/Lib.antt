@@ -27,3 +27,4 @@ pub mod ProgramBodies
 pub mod ProgramWeight
 pub mod ProgramItems
 pub mod SmallTranslation
+pub mod Mentions

@@ -55,7 +55,7 @@ named_item c u ds xs e h i t q r = go i.name t.name q.name r.0 r.1 q.body
     go (Some n) p f l r b = subst (λ p. Named xs p t.body) (sym f) (at_left n (look c.names n) refl l r b)
 
 -- ---- each defined name is defined once
-place_injective : (ns : List Name) (m n : List ℕ) (y z : Name) → look ns m ≡ Some y → look ns n ≡ Some z → place_in ns m ≡ place_in ns n → m ≡ n
+pub place_injective : (ns : List Name) (m n : List ℕ) (y z : Name) → look ns m ≡ Some y → look ns n ≡ Some z → place_in ns m ≡ place_in ns n → m ≡ n
 place_injective [] m n y z h k e = absurd (cc)
 place_injective (x ∷ ns) m n y z h k e = go (bytes_eq x.text m) (bytes_eq x.text n) refl refl h k e (place_injective ns m n y z)
   where
