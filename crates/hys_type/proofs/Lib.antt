@@ -28,3 +28,4 @@ pub mod ProgramWeight
 pub mod ProgramItems
 pub mod SmallTranslation
 pub mod Mentions
+pub mod SameCircles
