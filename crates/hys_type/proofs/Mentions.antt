@@ -1,10 +1,8 @@
 -- What a definition mentions, by texts and by places.
-use Rattle.std.proofs.Common.{◌≡◌, ℕ, zero, suc, ◌+◌, ◌<◌, List, [], ◌∷◌, Option, Some, None, Bool, true, false, ◌||◌, ◌⊎◌, inl, inr, ◌↔◌, map, cond, refl, sym, ◌∙◌, ap, subst, arith}
+use Rattle.std.proofs.Common.{◌≡◌, ℕ, suc, ◌+◌, ◌<◌, List, [], ◌∷◌, Option, Some, None, Bool, true, false, ◌||◌, ◌⊎◌, inl, inr, ◌↔◌, cond, refl, sym, ◌∙◌, ap, subst, arith}
 use Rattle.std.specs.Prelude.{IsTrue, nat_eq}
 use Rattle.std.specs.Str.{bytes_eq}
-use Rattle.std.specs.List.{AllByRecursion}
 use Rattle.std.proofs.Math.Path.{subst₂}
-use Rattle.hys_number.specs.Number.{Number}
 use Rattle.hys_number.specs.Ops.{whole}
 use Rattle.hys_lin.specs.Bits.{is_one}
 use Rattle.hys_lin.specs.declared.form.Term.{Term}
@@ -160,7 +158,7 @@ module _ (c : Setting) (n : List ℕ) (m : Name) (l : look c.names n ≡ Some m)
   pub body_mentions : (o : Option Name) (k : Option Kind) (s : said.Body) (b : Body) → IsBodyOf c k s b → SameMentions o s b
   body_mentions o k s b (guard {e = y} {t = t} {f = f} {eps = eps} i j q z) = mentions_as o s (said.Guard y t) b (means.Guard f eps) i j (λ r. form_mentions c.names _ f n m l q)
   body_mentions o k s b (choice {e = y} {h = t} {o = x} {l = w} {f = f} {g = g} i j q z u) = mentions_as o s (said.Choice y t x) b (means.Choice w f g) i j (λ r.
-    one_of (tree_mentions c.names n m l a y w r.0 q) (one_of (form_mentions c.names (form c.names t) f n m l z) (else_mentions x g u)))
+      one_of (tree_mentions c.names n m l a y w r.0 q) (one_of (form_mentions c.names (form c.names t) f n m l z) (else_mentions x g u)))
   body_mentions o k s b (logic {e = y} {l = w} i j z) = mentions_as o s (said.Logic y) b (means.Logic w) i j (λ r. tree_mentions c.names n m l a y w r z)
   body_mentions o k s b (linear {e = y} {f = f} i j z) = mentions_as o s (said.Linear y) b (means.Linear f) i j (λ r. form_mentions c.names _ f n m l z)
   body_mentions o k s b (next_bool {e = y} {l = w} i j z) = mentions_as o s (said.NextBool y) b (means.NextBool w) i j (λ r. none)

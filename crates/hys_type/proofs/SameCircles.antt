@@ -7,16 +7,14 @@ use Rattle.hys_number.specs.Number.{Number}
 use Rattle.hys_base.specs.Differ.{Apart, Differ}
 use Rattle.hys_ast.specs.declared.source.Section.{Section}
 use Rattle.hys_ast.specs.declared.source.Section.TheVariants as section
-use Rattle.hys_ast.specs.declared.source.Kind.{Kind}
 use Rattle.hys_ast.specs.Tree.{Decl, Item, Source}
-use Rattle.hys_meaning.specs.Values.{Assignment}
 use Rattle.hys_meaning.specs.Names.{Name, names, name_of, parameters, look, is_parameter, is_auxiliary}
 use Rattle.hys_meaning.specs.Bodies.{body}
 use Rattle.hys_meaning.specs.Typed.{differ, DeclaredOnce, Typed, ItemTyped, left, defines, is_left, any_kind}
+use Rattle.hys_meaning.specs.Unfolded.{Guard, guards, guard_decl, unfolded}
 use Rattle.hys_meaning.specs.Circular.{IsAuxiliary}
 use Rattle.hys_meaning.specs.Circular as source
 use Rattle.hys_prog.specs.declared.program.Role.{Role}
-use Rattle.hys_prog.specs.declared.program.Role.TheVariants as role
 use Rattle.hys_prog.specs.declared.program.Name.{Name as ProgName}
 use Rattle.hys_prog.specs.declared.program.ProgItem.{ProgItem}
 use Rattle.hys_prog.specs.declared.program.Program.{Program}
@@ -25,10 +23,10 @@ use Rattle.hys_prog.specs.Steps.{places_from}
 use Rattle.hys_prog.specs.Steps as steps
 use Rattle.hys_prog.specs.Orders.{IsIn, IsNone, AreDifferent}
 use Rattle.hys_prog.specs.Orders as program
-use Rattle.hys_type.specs.Translation.{place_in, role_in, IsNameOf, OneByOne, Setting, setting, IsItemOf, IsNamedTranslation, left_kind}
-use Rattle.hys_type.specs.Declaring.{declares}
-use Rattle.hys_type.proofs.KnownValues.{same_text, other_text, differ_texts}
-use Rattle.hys_type.proofs.Agree.{Placed, placed}
+use Rattle.hys_type.specs.Translation.{place_in, role_in, OneByOne, setting, IsItemOf, IsNamedTranslation, left_kind}
+use Rattle.hys_type.specs.Declaring.{declares, IsDeclaration}
+use Rattle.hys_type.proofs.KnownValues.{other_text, differ_texts}
+use Rattle.hys_type.proofs.Agree.{placed}
 use Rattle.hys_type.proofs.FormPlaces.{same_column, own_column}
 use Rattle.hys_type.proofs.SameSteps.{names_differ}
 use Rattle.hys_type.proofs.ProgramForms.{Stands, stands_at, at_name, look_own}
@@ -159,7 +157,7 @@ module _ (tolerance : Number) (s : Source) (p : Program) (h : IsNamedTranslation
   item_leads n m a b i t q r =
       let d : is_named (place_in (names s) n) t.name ≡ defines n i.name = same_definition (setting tolerance s) (place_in (names s) n) n a.name refl a.found i t q r in
       let e : source.MentionedIn (names s) m (body i) ↔ program.MentionedIn (place_in (names s) m) t.body =
-        body_mentions (setting tolerance s) m b.name b.found (no_parameter b.name.section b.auxiliary) (left (names s) i.name) (left_kind (names s) i.name) (body i) t.body q.body r.1 in
+      body_mentions (setting tolerance s) m b.name b.found (no_parameter b.name.section b.auxiliary) (left (names s) i.name) (left_kind (names s) i.name) (body i) t.body q.body r.1 in
       (λ x. ((named_is (place_in (names s) n) t.name).0 (d ∙ x.0), e.0 x.1), λ x. (sym d ∙ (named_is (place_in (names s) n) t.name).1 x.0, e.1 x.1))
 
   leads_same : (n m : List ℕ) → IsAux (names s) n → IsAux (names s) m → source.Leads s n m ↔ program.Leads p (place_in (names s) n) (place_in (names s) m)
@@ -217,11 +215,15 @@ module _ (tolerance : Number) (s : Source) (p : Program) (h : IsNamedTranslation
   aux_text d j q =
       let e : NamePlace (λ x. steps.is_auxiliary x.role ≡ true) p.names 0 j = place_name steps.is_auxiliary 0 p.names j q in
       let f : Found (parameters s.decls) (names s) (λ d. IsTrue (declares d.section)) (λ x. steps.is_auxiliary x.role ≡ true) j =
-        at_decl (parameters s.decls) (names s) (λ d. IsTrue (declares d.section)) (λ x. steps.is_auxiliary x.role ≡ true) 0 s.decls p.names h.names d (placed (names s) (names_differ s once)) (look_own (names s) (names_differ s once)) e.index j e.is e.has in
-      (f.decl.name, f.place, record {
-        name = name_of (parameters s.decls) f.decl; found = f.found;
-        auxiliary = role_aux f.decl.section f.ruled (ap steps.is_auxiliary (sym f.is.role) ∙ f.has);
-      })
+      at_decl (parameters s.decls) (names s) (λ d. IsTrue (declares d.section)) (λ x. steps.is_auxiliary x.role ≡ true) 0 s.decls p.names h.names d (placed (names s) (names_differ s once)) (look_own (names s) (names_differ s once)) e.index j e.is e.has in (
+        f.decl.name,
+        f.place,
+        record {
+          name = name_of (parameters s.decls) f.decl;
+          found = f.found;
+          auxiliary = role_aux f.decl.section f.ruled (ap steps.is_auxiliary (sym f.is.role) ∙ f.has);
+        },
+      )
 
   aux_texts : AllByRecursion (λ d. IsTrue (declares d.section)) s.decls → (js : List ℕ) → AllByRecursion (λ j. IsIn j (steps.places steps.is_auxiliary p)) js →
       (ns : List (List ℕ)) × (map (place_in (names s)) ns ≡ js) × AllByRecursion (IsAux (names s)) ns
@@ -238,3 +240,19 @@ module _ (tolerance : Number) (s : Source) (p : Program) (h : IsNamedTranslation
   circle_texts d js c =
       let f = aux_texts d js (are_auxiliaries js c) in
       (f.0, f.1, circle_again f.0 f.2 (subst (program.Circular p) (sym f.1) c))
+
+-- ---- unnamed guards
+all_append : (P : Decl → Type 0) (xs ys : List Decl) → AllByRecursion P xs → AllByRecursion P ys → AllByRecursion P (xs ++ ys)
+all_append P [] ys h k = k
+all_append P (x ∷ xs) ys h k = (h.0, all_append P xs ys h.1 k)
+
+guards_declared : (gs : List Guard) → AllByRecursion (λ d. IsTrue (declares d.section)) (map guard_decl gs)
+guards_declared [] = tt
+guards_declared (g ∷ gs) = (refl, guards_declared gs)
+
+all_declared : (ds : List Decl) → AllByRecursion IsDeclaration ds → AllByRecursion (λ d. IsTrue (declares d.section)) ds
+all_declared [] h = tt
+all_declared (d ∷ ds) h = (h.0.0, all_declared ds h.1)
+
+pub unfolded_declared : (s : Source) → AllByRecursion IsDeclaration s.decls → AllByRecursion (λ d. IsTrue (declares d.section)) (unfolded s).decls
+unfolded_declared s h = all_append (λ d. IsTrue (declares d.section)) s.decls (map guard_decl (guards s)) (all_declared s.decls h) (guards_declared (guards s))
