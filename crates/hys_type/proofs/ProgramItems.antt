@@ -55,7 +55,7 @@ named_item c u ds xs e h i t q r = go i.name t.name q.name r.0 r.1 q.body
     go (Some n) p f l r b = subst (λ p. Named xs p t.body) (sym f) (at_left n (look c.names n) refl l r b)
 
 -- ---- each defined name is defined once
-place_injective : (ns : List Name) (m n : List ℕ) (y z : Name) → look ns m ≡ Some y → look ns n ≡ Some z → place_in ns m ≡ place_in ns n → m ≡ n
+pub place_injective : (ns : List Name) (m n : List ℕ) (y z : Name) → look ns m ≡ Some y → look ns n ≡ Some z → place_in ns m ≡ place_in ns n → m ≡ n
 place_injective [] m n y z h k e = absurd (cc)
 place_injective (x ∷ ns) m n y z h k e = go (bytes_eq x.text m) (bytes_eq x.text n) refl refl h k e (place_injective ns m n y z)
   where
@@ -72,7 +72,7 @@ both_true false true f g = g refl
 both_true false false f g = refl
 
 -- an item defines the name at a place just where it defines its text
-same_definition : (c : Setting) (n : ℕ) (q : List ℕ) (z : Name) → place_in c.names q ≡ n → look c.names q ≡ Some z → (i : Item) (t : ProgItem) → IsItemOf c i t → ItemTyped c.names i → is_named n t.name ≡ defines q i.name
+pub same_definition : (c : Setting) (n : ℕ) (q : List ℕ) (z : Name) → place_in c.names q ≡ n → look c.names q ≡ Some z → (i : Item) (t : ProgItem) → IsItemOf c i t → ItemTyped c.names i → is_named n t.name ≡ defines q i.name
 same_definition c n q z e l i t h r = go i.name t.name h.name r.0
   where
     at_text : (m : List ℕ) (o : Option Name) → look c.names m ≡ o → IsTrue (suits i.section o) → eqb (place_in c.names m) n ≡ bytes_eq q m
@@ -95,16 +95,16 @@ same_count c n q z e l (i ∷ xs) (t ∷ ts) h r =
     ∙ sym (sum_by-cons (λ (y : Item). cond (defines q y.name) 1 0) i xs)
 
 -- the declaration of the name at a place
-record Found (u : Assignment) (ns : List Name) (R : Decl → Type 0) (P : ProgName → Type 0) (n : ℕ) : Type 0 where
-  decl : Decl
-  name : ProgName
-  is : IsNameOf u decl name
-  has : P name
-  ruled : R decl
-  place : place_in ns decl.name ≡ n
-  found : look ns decl.name ≡ Some (name_of u decl)
+pub record Found (u : Assignment) (ns : List Name) (R : Decl → Type 0) (P : ProgName → Type 0) (n : ℕ) : Type 0 where
+  pub decl : Decl
+  pub name : ProgName
+  pub is : IsNameOf u decl name
+  pub has : P name
+  pub ruled : R decl
+  pub place : place_in ns decl.name ≡ n
+  pub found : look ns decl.name ≡ Some (name_of u decl)
 
-at_decl : (u : Assignment) (ns : List Name) (R : Decl → Type 0) (P : ProgName → Type 0) (k : ℕ) (ds : List Decl) (xs : List ProgName) → OneByOne (IsNameOf u) ds xs → AllByRecursion R ds → Placed k (map (name_of u) ds) (place_in ns) →
+pub at_decl : (u : Assignment) (ns : List Name) (R : Decl → Type 0) (P : ProgName → Type 0) (k : ℕ) (ds : List Decl) (xs : List ProgName) → OneByOne (IsNameOf u) ds xs → AllByRecursion R ds → Placed k (map (name_of u) ds) (place_in ns) →
     AllByRecursion (λ n. look ns n.text ≡ Some n) (map (name_of u) ds) → (i j : ℕ) → j ≡ k + i → NameAt xs i P → Found u ns R P j
 at_decl u ns R P k [] [] h r p l i j e x = absurd x
 at_decl u ns R P k [] (y ∷ xs) h r p l i j e x = absurd h
