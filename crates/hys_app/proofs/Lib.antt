@@ -1,3 +1,7 @@
+-- Notes on how this crate is proved: forms that worked, and traps.
+-- - A command is a function to an `Outcome`; `carry_out` alone touches files and sink, so the order of effects is
+--   one proof. A `data` with a constructor for each way a run may end, with lemmas `by_..` named by `using(..)`,
+--   proves every branch with no file.
 pub mod Ends
 pub mod Compiling
 pub mod Consequences

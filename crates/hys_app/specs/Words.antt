@@ -3,5 +3,9 @@ use Rattle.std.specs.Prelude.{ℕ, List, [], ◌∷◌, Option, None, Some, code
 
 -- the source and the target, where the words are `compile SRC MLD`
 abbrev pub form_of : List (List ℕ) → Option (List ℕ × List ℕ)
-form_of (command ∷ source ∷ target ∷ []) = if bytes_eq command (codes "compile") then Some (source, target) else None
-form_of words = None
+form_of [] = None
+form_of (a ∷ []) = None
+form_of (a ∷ b ∷ []) = None
+form_of (command ∷ source ∷ target ∷ []) =
+    if bytes_eq command (codes "compile") then Some (source, target) else None
+form_of (a ∷ b ∷ c ∷ d ∷ rest) = None

@@ -20,7 +20,8 @@ ghost use Rattle.hys_app.specs.declared.status.Status.TheVariants.{Write, Memory
 /// - After want of memory nothing is put, or the whole file (`memory`).
 #[tactic(auto, using(crate::proofs::Consequences::done, crate::proofs::Consequences::write, crate::proofs::Consequences::silent, crate::proofs::Consequences::standing, crate::proofs::Consequences::counted, crate::proofs::Consequences::failed_put, crate::proofs::Consequences::failed_read, crate::proofs::Consequences::memory))]
 pub fn carrying_out()
-    ensures done { (o : Meant) (result : Ended) (old new : Outside) → IsCarriedOut o result old new → result ≢ Write → result ≢ Memory →
+    ensures done { (o : Meant) (result : Ended) (old new : Outside) → IsCarriedOut o result old new →
+        result ≢ Write → result ≢ Memory →
         (result ≡ o.status) × IsPut o.file old.held new.held × IfAppended old.written new.written o.line }
     ensures write { (o : Meant) (old new : Outside) → o.status ≢ Write → IsCarriedOut o Write old new →
         (Rose old.put_faults new.put_faults ⊎ Rose old.faults new.faults) }
@@ -32,7 +33,8 @@ pub fn carrying_out()
         (old.put_faults ≤ new.put_faults) × (old.faults ≤ new.faults) }
     ensures failed_put { (o : Meant) (result : Ended) (old new : Outside) → IsCarriedOut o result old new →
         new.put_faults ≢ old.put_faults → (result ≡ Write) × (new.written ≡ old.written) }
-    ensures failed_read { (o : Meant) (result : Ended) (old new : Outside) → IsAfterReads o old.read_faults new.read_faults →
+    ensures failed_read { (o : Meant) (result : Ended) (old new : Outside) →
+        IsAfterReads o old.read_faults new.read_faults →
         IsCarriedOut o result old new → new.read_faults ≢ old.read_faults → new.held ≡ old.held }
     ensures memory { (o : Meant) (old new : Outside) → o.status ≢ Memory → IsCarriedOut o Memory old new →
         ((new.held ≡ old.held) ⊎ IsPut o.file old.held new.held) }

@@ -25,6 +25,11 @@ use Rattle.hys_ast.specs.Tree.{Tree, Number, Name, Truth, Cast, Unary, Binary, D
 abbrev pub Writes : List ℕ → List ℕ → (List Spelling → List Spelling) → Type 0
 Writes before after words = (rest : List Spelling) → after ++ spaced rest ≡ before ++ spaced (words rest)
 
+-- it is one token with these bytes
+abbrev pub WritesToken : List ℕ → List ℕ → List ℕ → Type 0
+WritesToken before after token =
+    (w : Spelling) (rest : List Spelling) → w.bytes ≡ token → after ++ spaced rest ≡ before ++ spaced (w ∷ rest)
+
 abbrev pub name : List ℕ → Spelling
 name bytes = record { kind = token.Name; bytes = bytes }
 

@@ -67,7 +67,8 @@ fn with_shape(count: NodeCount, shape: &Shape) -> NodeCount
 }
 
 fn with_decls(count: NodeCount, decls: &[Decl]) -> NodeCount
-    ensures { (es : List Tree) → IsCountOf es count → IsCountOf (es ++ decls_expressions (map decl_of decls.now)) result }
+    ensures { (es : List Tree) → IsCountOf es count →
+        IsCountOf (es ++ decls_expressions (map decl_of decls.now)) result }
 {
     let mut sum = count;
     for decl in decls {
@@ -77,7 +78,8 @@ fn with_decls(count: NodeCount, decls: &[Decl]) -> NodeCount
 }
 
 fn with_items(count: NodeCount, items: &[Item]) -> NodeCount
-    ensures { (es : List Tree) → IsCountOf es count → IsCountOf (es ++ items_expressions (map item_of items.now)) result }
+    ensures { (es : List Tree) → IsCountOf es count →
+        IsCountOf (es ++ items_expressions (map item_of items.now)) result }
 {
     let mut sum = count;
     for item in items {

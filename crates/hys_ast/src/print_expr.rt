@@ -138,7 +138,9 @@ fn left_spine<'a>(
     out: &mut Vec<u8>,
     expr: &'a Expr,
 ) -> Result<(Vec<&'a Expr>, &'a Expr), AllocError>
-    ensures written { IfOk result (λ p. (rest : List Spelling) → out.new.items ++ spaced (expr_words (tree_of p.1.now) (behind (map (λ e. tree_of e.now) p.0.items) rest)) ≡ out.old.items ++ spaced (expr_words (tree_of expr.now) rest)) }
+    ensures written { IfOk result (λ p. (rest : List Spelling) →
+        out.new.items ++ spaced (expr_words (tree_of p.1.now) (behind (map (λ e. tree_of e.now) p.0.items) rest)) ≡
+        out.old.items ++ spaced (expr_words (tree_of expr.now) rest)) }
     ensures single { IfOk result (λ p. is_single (tree_of p.1.now) ≡ true) }
     ensures smaller { IfOk result (λ p. nodes (tree_of p.1.now) ≤ nodes (tree_of expr.now)) }
     ensures within { IfOk result (λ p. Within (nodes (tree_of expr.now)) (map (λ e. tree_of e.now) p.0.items)) }

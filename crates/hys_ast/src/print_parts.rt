@@ -20,7 +20,8 @@ fn kind(kind: Kind) -> &'static [u8]
 }
 
 fn bracketed(alloc: Global, out: &mut Vec<u8>, low: &Expr, high: &Expr) -> Result<(), AllocError>
-    ensures { IfOk result (λ _. Writes out.old.items out.new.items (bounds_words (Some (tree_of low.now)) (Some (tree_of high.now)))) }
+    ensures { IfOk result (λ _.
+        Writes out.old.items out.new.items (bounds_words (Some (tree_of low.now)) (Some (tree_of high.now)))) }
 {
     put(out, b"[")?;
     expression(alloc, out, low)?;
@@ -35,7 +36,8 @@ fn bounds(
     low: &Option<Expr>,
     high: &Option<Expr>,
 ) -> Result<(), AllocError>
-    ensures { IfOk result (λ _. Writes out.old.items out.new.items (bounds_words (maybe_tree_of low.now) (maybe_tree_of high.now))) }
+    ensures { IfOk result (λ _.
+        Writes out.old.items out.new.items (bounds_words (maybe_tree_of low.now) (maybe_tree_of high.now))) }
 {
     match (low, high) {
         (Some(low), Some(high)) => bracketed(alloc, out, low, high),
@@ -84,7 +86,8 @@ fn wide(
     comparison: &Expr,
     tolerance: &Expr,
 ) -> Result<(), AllocError>
-    ensures { IfOk result (λ _. Writes out.old.items out.new.items (shape_words (Wide (tree_of comparison.now) (tree_of tolerance.now)))) }
+    ensures { IfOk result (λ _.
+        Writes out.old.items out.new.items (shape_words (Wide (tree_of comparison.now) (tree_of tolerance.now)))) }
 {
     expression(alloc, out, comparison)?;
     put(out, b"[")?;

@@ -83,7 +83,8 @@ fn next_declaration(
     decl: &Decl,
 ) -> Result<Option<Section>, AllocError>
     ensures { IfOk result (λ new. (ds : List DeclTree) → (rest : List Spelling) →
-        out.new.items ++ spaced (decls_words new (declared aux ds) rest) ≡ out.old.items ++ spaced (decls_words held (declared aux (decl_of decl.now ∷ ds)) rest)) }
+        out.new.items ++ spaced (decls_words new (declared aux ds) rest) ≡ out.old.items ++
+        spaced (decls_words held (declared aux (decl_of decl.now ∷ ds)) rest)) }
 {
     if same_section(Section::Aux, decl.section) != aux {
         return Ok(held);
@@ -100,7 +101,8 @@ fn declarations(
     aux: bool,
     decls: &[Decl],
 ) -> Result<(), AllocError>
-    ensures { IfOk result (λ _. Writes out.old.items out.new.items (decls_words None (declared aux (map decl_of decls.now)))) }
+    ensures { IfOk result (λ _.
+        Writes out.old.items out.new.items (decls_words None (declared aux (map decl_of decls.now)))) }
 {
     let mut held = None;
     for decl in decls {
@@ -116,7 +118,8 @@ fn next_item(
     next: &Item,
 ) -> Result<Option<Section>, AllocError>
     ensures { IfOk result (λ new. (is : List ItemTree) → (rest : List Spelling) →
-        out.new.items ++ spaced (items_words new is rest) ≡ out.old.items ++ spaced (items_words held (item_of next.now ∷ is) rest)) }
+        out.new.items ++ spaced (items_words new is rest) ≡ out.old.items ++
+        spaced (items_words held (item_of next.now ∷ is) rest)) }
 {
     begin(out, held, next.section)?;
     item(alloc, out, next)?;

@@ -24,9 +24,12 @@ use hys_parse::laws as trees;
 /// source at every tolerance. A plain source within the limits on nodes is an accepted one, and a
 /// plain text is that of an accepted source.
 pub fn exact_for_plain_source()
-    ensures system { (tokens : List Token) (s : Source) (p : PlainParts) → IsPlain tokens s → PartsOf s p → IsSystem (system_of p) }
-    ensures exact { (tokens : List Token) (s : Source) (p : PlainParts) → IsPlain tokens s → PartsOf s p → (tolerance : Number) → IsExactFor tolerance s (system_of p) }
-    ensures accepted { (tokens : List Token) (s : Source) → IsPlain tokens s → total (expressions s) ≤ 4000 → AllByRecursion (λ e. nodes e ≤ 1000) (expressions s) → Accepted s }
+    ensures system { (tokens : List Token) (s : Source) (p : PlainParts) → IsPlain tokens s → PartsOf s p →
+        IsSystem (system_of p) }
+    ensures exact { (tokens : List Token) (s : Source) (p : PlainParts) → IsPlain tokens s → PartsOf s p →
+        (tolerance : Number) → IsExactFor tolerance s (system_of p) }
+    ensures accepted { (tokens : List Token) (s : Source) → IsPlain tokens s → total (expressions s) ≤ 4000 →
+        AllByRecursion (λ e. nodes e ≤ 1000) (expressions s) → Accepted s }
     ensures accepted_text { (text : List ℕ) → IsPlainText text → IsAcceptedText text }
 {}
 

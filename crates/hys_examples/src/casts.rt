@@ -26,14 +26,17 @@ pub fn casts()
 
 /// The ends of boxes are exact.
 pub fn numbers()
-    ensures sum { map (λ n. n.high) (names (boxed_by (both binary.Add (number (codes "0.1")) (number (codes "0.2"))))) ≡ n_over 3 10 ∷ [] }
+    ensures sum { map (λ n. n.high) (names (boxed_by (both binary.Add (number (codes "0.1")) (number
+        (codes "0.2"))))) ≡ n_over 3 10 ∷ [] }
     ensures small { map (λ n. n.high) (names (boxed_by (number (codes "1e-18")))) ≡ n_over 1 1000000000000000000 ∷ [] }
 {}
 
 /// `a -> b` is `~a | b`, and `a <- b` is `a | ~b`.
 pub fn arrows()
-    ensures then { (w : Assignment) (a b : Tree) → truth w (both binary.Then a b) ≡ truth w (both binary.Or (negated a) b) }
-    ensures from { (w : Assignment) (a b : Tree) → truth w (both binary.From a b) ≡ truth w (both binary.Or a (negated b)) }
+    ensures then { (w : Assignment) (a b : Tree) →
+        truth w (both binary.Then a b) ≡ truth w (both binary.Or (negated a) b) }
+    ensures from { (w : Assignment) (a b : Tree) →
+        truth w (both binary.From a b) ≡ truth w (both binary.Or a (negated b)) }
 {}
 
 /// A name whose factors cancel isn't mentioned.

@@ -18,5 +18,6 @@ pub fn at_the_edge()
 /// The guard `d = x <= 20` is true wherever x lies in its box.
 pub fn always_on()
     ensures three { OneStep tolerance always (whole 3 ∷ []) [] (whole 1 ∷ []) (whole 3 ∷ []) [] }
-    ensures everywhere { (a : Number) (w : Assignment) (x' y : List Number) → Legal tolerance always (a ∷ []) [] w x' y → w (codes "d") ≡ whole 1 }
+    ensures everywhere { (a : Number) (w : Assignment) (x' y : List Number) →
+        Legal tolerance always (a ∷ []) [] w x' y → w (codes "d") ≡ whole 1 }
 {}

@@ -23,6 +23,7 @@ pub fn own_tolerance()
 /// With `d = a & x <= 4` and a true, at 4 both d and the unnamed guard are true, and no step is legal
 /// a little above.
 pub fn unnamed_guard()
-    ensures edge { OneStep tolerance (unfolded inner) (whole 4 ∷ []) (whole 1 ∷ []) (whole 1 ∷ whole 1 ∷ []) (whole 4 ∷ []) [] }
+    ensures edge { OneStep tolerance (unfolded inner) (whole 4 ∷ []) (whole 1 ∷ []) (whole 1 ∷ whole 1 ∷
+        []) (whole 4 ∷ []) [] }
     ensures gap { Stuck tolerance (unfolded inner) (n_over 8001 2000 ∷ []) (whole 1 ∷ []) }
 {}

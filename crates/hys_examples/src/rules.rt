@@ -15,7 +15,8 @@ pub fn cycles()
     ensures two { Circular led_round (codes "d1" ∷ codes "d2" ∷ []) }
     ensures one { Circular led_to_itself (codes "d" ∷ []) }
     ensures refused { ¬ (Accepted led_round) × ¬ (Accepted led_to_itself) }
-    ensures typed { Typed led_round × Bounded led_round × DeclaredOnce led_round × HaveValues led_round × DefinedOnce led_round × WithinLimits led_round }
+    ensures typed { Typed led_round × Bounded led_round × DeclaredOnce led_round × HaveValues led_round ×
+        DefinedOnce led_round × WithinLimits led_round }
 {}
 
 /// A box whose low end is above its high end, and one of a single number.
@@ -54,9 +55,12 @@ pub fn places()
     ensures section { ¬ (Typed (with_items (item section.Linear (codes "d") (number (codes "1")) ∷ shown ∷ []))) }
     ensures unknown { ¬ (Typed (with_items (item section.Logic (codes "e") (truth true) ∷ settled ∷ shown ∷ []))) }
     ensures output { ¬ (Typed (with_items (settled ∷ item section.OutputItem (codes "y") (name (codes "y")) ∷ []))) }
-    ensures equation { ¬ (Typed (with_items (item section.Ad (codes "d") (both binary.Equal (number (codes "1")) (number (codes "1"))) ∷ shown ∷ []))) }
-    ensures within { ¬ (Typed (with_items (item section.Logic (codes "d") (negated (both binary.Most (number (codes "1")) (number (codes "1")))) ∷ shown ∷ []))) }
-    ensures top { Typed (with_items (settled ∷ shown ∷ must (both binary.Equal (number (codes "1")) (number (codes "1"))) ∷ [])) }
+    ensures equation { ¬ (Typed (with_items (item section.Ad (codes "d") (both binary.Equal (number (codes "1"))
+        (number (codes "1"))) ∷ shown ∷ []))) }
+    ensures within { ¬ (Typed (with_items (item section.Logic (codes "d") (negated (both binary.Most (number
+        (codes "1")) (number (codes "1")))) ∷ shown ∷ []))) }
+    ensures top { Typed (with_items (settled ∷ shown ∷
+        must (both binary.Equal (number (codes "1")) (number (codes "1"))) ∷ [])) }
     ensures kind { ¬ (Typed (with_items (settled ∷ item section.OutputItem (codes "y") (truth true) ∷ []))) }
 {}
 

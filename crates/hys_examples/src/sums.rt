@@ -22,5 +22,6 @@ pub fn a_broken_demand()
     ensures first { OneStep tolerance demanding (whole 4 ∷ []) (whole 1 ∷ []) [] (whole 5 ∷ []) [] }
     ensures second { OneStep tolerance demanding (whole 5 ∷ []) (whole 1 ∷ []) [] (whole 6 ∷ []) [] }
     ensures broken { Stuck tolerance demanding (whole 6 ∷ []) (whole 1 ∷ []) }
-    ensures run { (steps : List (Assignment × List Number)) × Run tolerance demanding (whole 4 ∷ []) ((whole 1 ∷ []) ∷ (whole 1 ∷ []) ∷ []) steps (whole 6 ∷ []) }
+    ensures run { (steps : List (Assignment × List Number)) ×
+        Run tolerance demanding (whole 4 ∷ []) ((whole 1 ∷ []) ∷ (whole 1 ∷ []) ∷ []) steps (whole 6 ∷ []) }
 {}

@@ -14,7 +14,8 @@ ghost use Rattle.hys_examples.specs.Systems.{casting_system, guarded_system, sum
 
 /// The source of `x = x + u` is plain with any plain tokens, and the system of its parts is exact for it.
 pub fn of_a_sum()
-    ensures plain { (tokens : List Token) → AllByRecursion (λ t. IsTrue (is_plain_kind t.kind)) tokens → IsPlain tokens summed }
+    ensures plain { (tokens : List Token) → AllByRecursion (λ t. IsTrue (is_plain_kind t.kind)) tokens →
+        IsPlain tokens summed }
     ensures parts { PartsOf summed summed_parts }
     ensures system { IsSystem (system_of summed_parts) }
     ensures exact { (t : Number) → IsExactFor t summed (system_of summed_parts) }

@@ -4,6 +4,7 @@ ghost use Rattle.std.specs.Float.Numeral.{minus, scan_numeral, digits_end as end
 ghost use Rattle.hys_number.specs.Number.{make};
 ghost use Rattle.hys_number.specs.Ops.{fits};
 ghost use Rattle.hys_frac.specs.Read.{literal_value};
+ghost use Rattle.hys_frac.specs.Numerals.{exponent_digits, exponent_end};
 
 use crate::digits::{byte_at, digits_end, number};
 use crate::frac::Frac;
@@ -22,18 +23,24 @@ pub struct Numeral<'a> {
 }
 
 impl<'a> Model for Numeral<'a> {
-    ghost use Rattle.std.specs.Prelude.{◌++◌, ◌+◌, ◌≤◌, length};
-    ghost use Rattle.std.specs.Str.Parse.{AllDigits};
     ghost use Rattle.std.specs.Float.Numeral.{Parts};
     ghost use Rattle.hys_frac.specs.Read.{parts_code};
+    ghost use Rattle.hys_frac.specs.Numerals.{AreParts};
 
     ghost Value = { Parts };
 
     ghost coded = { parts_code };
 
-    ghost view = { λ n. record { whole = n.whole.now; point = n.point; fraction = n.fraction.now; exponent_negative = n.exponent_negative; exponent = n.exponent.now; len = n.len } };
+    ghost view = { λ n. record {
+      whole = n.whole.now;
+      point = n.point;
+      fraction = n.fraction.now;
+      exponent_negative = n.exponent_negative;
+      exponent = n.exponent.now;
+      len = n.len;
+    } };
 
-    ghost invariant = { λ n. AllDigits 10 n.whole.now × AllDigits 10 n.fraction.now × AllDigits 10 n.exponent.now × (length n.whole.now + length n.fraction.now + length n.exponent.now ≤ n.len) };
+    ghost invariant = { λ n. AreParts n.whole.now n.fraction.now n.exponent.now n.len };
 }
 
 // Where the digits of the exponent at the index begin, or 0 where there is none.
@@ -84,10 +91,12 @@ impl<'a> Numeral<'a> {
         requires at { at ≤ length text.now }
         requires digits { AllDigits 10 whole.now × AllDigits 10 fraction.now }
         requires taken { length whole.now + length fraction.now ≤ at }
-        ensures kept { (result.whole ≡ whole.entry.now) × (result.point ≡ point) × (result.fraction ≡ fraction.entry.now) }
+        ensures whole { result.whole ≡ whole.entry.now }
+        ensures point { result.point ≡ point }
+        ensures fraction { result.fraction ≡ fraction.entry.now }
         ensures sign { result.exponent_negative ≡ (has_exponent text.now at && slice_index text.now (at + 1) == minus) }
-        ensures exponent { result.exponent ≡ (if has_exponent text.now at then slice_range text.now (exponent_start text.now at) (end_of_digits text.now (exponent_start text.now at)) else []) }
-        ensures len { result.len ≡ (if has_exponent text.now at then end_of_digits text.now (exponent_start text.now at) else at) }
+        ensures exponent { result.exponent ≡ exponent_digits text.now at }
+        ensures len { result.len ≡ exponent_end text.now at }
         ensures within { result.len ≤ length text.now }
     {
         let start = find_exponent(text, at);

@@ -57,14 +57,24 @@ joins s a (Some t) g = times a t.factor ∷ joined s (a *ₙ t.factor) (coeffici
 abbrev pub row_numbers : Side → Number → Number → Option Term → Affine → List Operation
 row_numbers s a k t g = joins s a t g ++ (times a k ∷ minus (constant_by s g.constant) (a *ₙ k) ∷ [])
 
+abbrev pub bound_numbers : Side → Number → Affine → Affine → List Operation
+bound_numbers s a l g = row_numbers s a l.constant (own_term l.terms) g
+
 -- the numbers of the two rows that hold the column to a form where the literal is 0
 abbrev pub pair_numbers : Number → Number → Number → Option Term → Affine → List Operation
 pair_numbers upper lower k t g = row_numbers Upper upper k t g ++ row_numbers Lower lower k t g
+
+-- the same for a literal, and for 1 less the literal, whose constant is computed first
+abbrev pub literal_numbers : Number → Number → Affine → Affine → List Operation
+literal_numbers upper lower l g = pair_numbers upper lower l.constant (own_term l.terms) g
+
+abbrev pub opposite_numbers : Number → Number → Affine → Affine → List Operation
+opposite_numbers upper lower l g =
+    minus (whole 1) l.constant ∷ pair_numbers upper lower (whole 1 -ₙ l.constant) (opposite_term (own_term l.terms)) g
 
 -- the two big factors, then row by row
 abbrev pub choice_numbers : Affine → Affine → Interval → Affine → Interval → List Operation
 choice_numbers l a i b j =
     minus j.low i.high ∷ minus i.low j.high
-    ∷ (pair_numbers (j.low -ₙ i.high) (i.low -ₙ j.high) l.constant (own_term l.terms) b
-    ++ (minus (whole 1) l.constant
-    ∷ pair_numbers (i.low -ₙ j.high) (j.low -ₙ i.high) (whole 1 -ₙ l.constant) (opposite_term (own_term l.terms)) a))
+    ∷ (literal_numbers (j.low -ₙ i.high) (i.low -ₙ j.high) l b
+    ++ opposite_numbers (i.low -ₙ j.high) (j.low -ₙ i.high) l a)

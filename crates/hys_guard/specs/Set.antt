@@ -41,6 +41,10 @@ pub record IsSet (c : ℕ) (b a : Number) (old new : List Term) : Type 0 where
   pub was : Around c b before after old
   pub is : Around c a before after new
 
+-- the factor at the column is set to a
+abbrev pub IsSetTo : ℕ → Number → List Term → List Term → Type 0
+IsSetTo c a old new = IsSet c (coefficient old c) a old new
+
 abbrev pub negated : List Term → List Term
 negated [] = []
 negated (t ∷ ts) = record { column = t.column; factor = neg t.factor } ∷ negated ts
@@ -63,7 +67,8 @@ unit_by Lower = neg (whole 1)
 -- the form's terms with their signs, and the literal's times the big factor
 abbrev pub JoinedTerms : Side → Number → Option Term → List Term → List Term → Type 0
 JoinedTerms s a None g new = new ≡ signed s g
-JoinedTerms s a (Some t) g new = IsSet t.column (coefficient (signed s g) t.column) (join_by s (a *ₙ t.factor) (coefficient g t.column)) (signed s g) new
+JoinedTerms s a (Some t) g new =
+    IsSetTo t.column (join_by s (a *ₙ t.factor) (coefficient g t.column)) (signed s g) new
 
 -- the column of the literal, where it has one, has the property
 abbrev pub EachOwn : (ℕ → Type 0) → Option Term → Type 0

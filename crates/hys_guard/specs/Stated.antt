@@ -23,7 +23,8 @@ guarded_by s f a d b = record { left = λ v. turned_by s (sum_of f.terms v) +ₙ
 -- number + high * column at most high, and (low - tolerance) * column - number at most - tolerance;
 -- the number's constant stands in the bounds
 abbrev pub guard_stated : Affine → Interval → Number → ℕ → List Stated
-guard_stated f i e d = guarded_by Lower f i.high d (i.high -ₙ f.constant) ∷ guarded_by Upper f (i.low -ₙ e) d (f.constant -ₙ e) ∷ []
+guard_stated f i e d =
+    guarded_by Lower f i.high d (i.high -ₙ f.constant) ∷ guarded_by Upper f (i.low -ₙ e) d (f.constant -ₙ e) ∷ []
 
 -- the column less the terms, or the terms less the column
 abbrev pub apart_by : Side → Number → Number → Number
@@ -46,11 +47,17 @@ bound_by s a k t g z = record {
 abbrev pub pair_stated : Number → Number → Number → Option Term → Affine → ℕ → List Stated
 pair_stated upper lower k t g z = bound_by Upper upper k t g z ∷ bound_by Lower lower k t g z ∷ []
 
+-- the rows where the literal is 0, and those where 1 less the literal is 0
+abbrev pub literal_pair : Number → Number → Affine → Affine → ℕ → List Stated
+literal_pair upper lower l g z = pair_stated upper lower l.constant (own_term l.terms) g z
+
+abbrev pub opposite_pair : Number → Number → Affine → Affine → ℕ → List Stated
+opposite_pair upper lower l g z = pair_stated upper lower (whole 1 -ₙ l.constant) (opposite_term (own_term l.terms)) g z
+
 -- the column is the other form where the literal is 0, and the hit where 1 less the literal is 0
 abbrev pub choice_stated : Affine → Affine → Interval → Affine → Interval → ℕ → List Stated
 choice_stated l a i b j z =
-    pair_stated (j.low -ₙ i.high) (i.low -ₙ j.high) l.constant (own_term l.terms) b z
-    ++ pair_stated (i.low -ₙ j.high) (j.low -ₙ i.high) (whole 1 -ₙ l.constant) (opposite_term (own_term l.terms)) a z
+    literal_pair (j.low -ₙ i.high) (i.low -ₙ j.high) l b z ++ opposite_pair (i.low -ₙ j.high) (j.low -ₙ i.high) l a z
 
 -- the column is at most the form, or at least
 abbrev pub copied_by : Side → Affine → ℕ → Stated

@@ -1,16 +1,10 @@
-ghost use Rattle.std.specs.Prelude.{◌≡◌, ◌<◌, ◌≤◌, ◌↔◌, ◌⊎◌, IfOk, length, ℕ, Bool, []};
-ghost use Rattle.hys_number.specs.Ops.{whole, ◌≤ₙ◌, ◌<ₙ◌};
-ghost use Rattle.hys_lin.specs.Sums.{Assignment, value, AreTerms, EachColumn, HoldAll, Within};
-ghost use Rattle.std.specs.Prelude.{◌∷◌, ◌++◌, List as Elements};
-ghost use Rattle.hys_lin.specs.declared.form.Row.{Row as LinRow};
-ghost use Rattle.hys_number.specs.Ops.{◌-ₙ◌};
-ghost use Rattle.hys_lin.specs.Bits.{bit};
+ghost use Rattle.std.specs.Prelude.{◌≡◌, ◌≤◌, IfOk, length, [], ◌∷◌};
+ghost use Rattle.hys_number.specs.Ops.{whole, ◌-ₙ◌};
+ghost use Rattle.hys_lin.specs.Sums.{AreTerms, EachColumn};
 ghost use Rattle.hys_lin.specs.Operations.{minus};
-ghost use Rattle.hys_guard.specs.Bits.{chosen};
-ghost use Rattle.hys_guard.specs.Numbers.{Judged, choice_numbers, pair_numbers, row_numbers, joins, own_term as own_term_of, opposite_term};
+ghost use Rattle.hys_guard.specs.Numbers.{Judged, choice_numbers, literal_numbers, opposite_numbers, bound_numbers, joins, own_term as own_term_of};
 ghost use Rattle.hys_guard.specs.Set.{JoinedTerms, EachOwn, negated};
-ghost use Rattle.hys_lin.specs.Stated.{AreRows, IsRow, EachBelow};
-ghost use Rattle.hys_guard.specs.Stated.{choice_stated, pair_stated, bound_by};
+ghost use Rattle.hys_guard.specs.Meanings.{MeanChoice, AreChoice, BelowAll, AddsPair, AddsOpposite, IsBound, TermsBelowOwn};
 
 use crate::fault::GuardFault;
 use crate::numbers::{difference, joined, product};
@@ -68,9 +62,9 @@ pub fn choice_rows(
     requires literal_apart { EachColumn (λ c. ¬ (c ≡ column)) literal.now.terms }
     requires hit_apart { EachColumn (λ c. ¬ (c ≡ column)) hit.now.terms }
     requires other_apart { EachColumn (λ c. ¬ (c ≡ column)) other.now.terms }
-    ensures meaning { IfOk result (λ rows. (v : Assignment) (t : Bool) → value literal.now v ≡ bit t → Within hit_range (value hit.now v) → Within other_range (value other.now v) → HoldAll v rows.items ↔ (v column ≡ chosen t (value hit.now v) (value other.now v))) }
-    ensures stated { IfOk result (λ rows. AreRows rows.items (choice_stated literal.now hit.now hit_range other.now other_range column)) }
-    ensures below { IfOk result (λ rows. (n : ℕ) → column < n → EachColumn (λ c. c < n) literal.now.terms → EachColumn (λ c. c < n) hit.now.terms → EachColumn (λ c. c < n) other.now.terms → EachBelow n rows.items) }
+    ensures meaning { IfOk result (λ r. MeanChoice literal.now hit.now hit_range other.now other_range column r.items) }
+    ensures stated { IfOk result (λ r. AreChoice literal.now hit.now hit_range other.now other_range column r.items) }
+    ensures below { IfOk result (λ rows. BelowAll column literal.now hit.now other.now rows.items) }
     ensures judged { Judged (choice_numbers literal.now hit.now hit_range other.now other_range) result }
 {
     let other_excess = difference(other_range.low, hit_range.high)?;
@@ -110,8 +104,8 @@ fn rows_at_zero(
     requires terms { AreTerms form.now.terms }
     requires apart { EachColumn (λ c. ¬ (c ≡ column)) form.now.terms }
     requires own_apart { EachColumn (λ c. ¬ (c ≡ column)) literal.now.terms }
-    ensures added { IfOk result (λ _. (more : Elements LinRow) × (rows.new.items ≡ rows.old.items ++ more) × AreRows more (pair_stated upper lower literal.now.constant (own_term_of literal.now.terms) form.now column) × ((n : ℕ) → column < n → EachColumn (λ c. c < n) literal.now.terms → EachColumn (λ c. c < n) form.now.terms → EachBelow n more)) }
-    ensures judged { Judged (pair_numbers upper lower literal.now.constant (own_term_of literal.now.terms) form.now) result }
+    ensures added { IfOk result (λ _. AddsPair upper lower literal.now form.now column rows.old.items rows.new.items) }
+    ensures judged { Judged (literal_numbers upper lower literal.now form.now) result }
 {
     rows.push(choice_row(alloc, Side::Upper, upper, literal, form, column)?)?;
     rows.push(choice_row(alloc, Side::Lower, lower, literal, form, column)?)?;
@@ -131,8 +125,9 @@ fn rows_at_one(
     requires terms { AreTerms form.now.terms }
     requires apart { EachColumn (λ c. ¬ (c ≡ column)) form.now.terms }
     requires own_apart { EachColumn (λ c. ¬ (c ≡ column)) literal.now.terms }
-    ensures added { IfOk result (λ _. (more : Elements LinRow) × (rows.new.items ≡ rows.old.items ++ more) × AreRows more (pair_stated upper lower (whole 1 -ₙ literal.now.constant) (opposite_term (own_term_of literal.now.terms)) form.now column) × ((n : ℕ) → column < n → EachColumn (λ c. c < n) literal.now.terms → EachColumn (λ c. c < n) form.now.terms → EachBelow n more)) }
-    ensures judged { Judged (minus (whole 1) literal.now.constant ∷ pair_numbers upper lower (whole 1 -ₙ literal.now.constant) (opposite_term (own_term_of literal.now.terms)) form.now) result }
+    ensures added { IfOk result (λ _.
+        AddsOpposite upper lower literal.now form.now column rows.old.items rows.new.items) }
+    ensures judged { Judged (opposite_numbers upper lower literal.now form.now) result }
 {
     let opposite = opposite(alloc, literal)?;
     rows_at_zero(alloc, rows, upper, lower, &opposite, form, column)?;
@@ -151,9 +146,9 @@ fn choice_row(
     requires terms { AreTerms form.now.terms }
     requires apart { EachColumn (λ c. ¬ (c ≡ column)) form.now.terms }
     requires own_apart { EachOwn (λ c. ¬ (c ≡ column)) (own_term_of literal.now.terms) }
-    ensures stated { IfOk result (λ r. IsRow r (bound_by side factor literal.now.constant (own_term_of literal.now.terms) form.now column)) }
-    ensures below { IfOk result (λ r. (n : ℕ) → column < n → EachOwn (λ c. c < n) (own_term_of literal.now.terms) → EachColumn (λ c. c < n) form.now.terms → EachColumn (λ c. c < n) r.terms) }
-    ensures judged { Judged (row_numbers side factor literal.now.constant (own_term_of literal.now.terms) form.now) result }
+    ensures stated { IfOk result (λ r. IsBound side factor literal.now form.now column r) }
+    ensures below { IfOk result (λ r. TermsBelowOwn column literal.now form.now r.terms) }
+    ensures judged { Judged (bound_numbers side factor literal.now form.now) result }
 {
     let terms = joined_terms(alloc, side, factor, own_term(literal), form)?;
     let moved = product(factor, literal.constant)?;

@@ -4,6 +4,7 @@ ghost use Rattle.hys_lin.specs.Sums.{Assignment, value, AreTerms, EachColumn, Ho
 ghost use Rattle.hys_guard.specs.Numbers.{Judged};
 ghost use Rattle.hys_lin.specs.Stated.{AreRows, EachBelow, IsRow};
 ghost use Rattle.hys_guard.specs.Stated.{copied_by, copy_stated};
+ghost use Rattle.hys_guard.specs.Meanings.{BelowWith, TermsBelow};
 
 use crate::fault::GuardFault;
 use crate::terms::{Side, row_with, signed};
@@ -19,7 +20,7 @@ pub fn copy_rows(alloc: Global, form: &Affine, column: u32) -> Result<Vec<Row>, 
     requires apart { EachColumn (λ c. ¬ (c ≡ column)) form.now.terms }
     ensures meaning { IfOk result (λ rows. (v : Assignment) → HoldAll v rows.items ↔ (v column ≡ value form.now v)) }
     ensures stated { IfOk result (λ rows. AreRows rows.items (copy_stated form.now column)) }
-    ensures below { IfOk result (λ rows. (n : ℕ) → column < n → EachColumn (λ c. c < n) form.now.terms → EachBelow n rows.items) }
+    ensures below { IfOk result (λ rows. BelowWith column form.now.terms rows.items) }
     ensures judged { Judged [] result }
 {
     let mut rows = Vec::new(alloc);
@@ -33,7 +34,7 @@ fn copy_row(alloc: Global, side: Side, form: &Affine, column: u32) -> Result<Row
     requires terms { AreTerms form.now.terms }
     requires apart { EachColumn (λ c. ¬ (c ≡ column)) form.now.terms }
     ensures stated { IfOk result (λ r. IsRow r (copied_by side form.now column)) }
-    ensures below { IfOk result (λ r. (n : ℕ) → column < n → EachColumn (λ c. c < n) form.now.terms → EachColumn (λ c. c < n) r.terms) }
+    ensures below { IfOk result (λ r. TermsBelow column form.now.terms r.terms) }
 {
     let terms = signed(alloc, side, form.terms.items())?;
     Ok(row_with(terms, column, side.unit(), side.constant(form.constant))?)

@@ -1,10 +1,10 @@
-ghost use Rattle.std.specs.Prelude.{◌≡◌, ◌<◌, ◌≤◌, ◌↔◌, ◌⊎◌, IfOk, length, ℕ, Bool, []};
-ghost use Rattle.hys_number.specs.Ops.{whole, ◌≤ₙ◌, ◌<ₙ◌};
-ghost use Rattle.hys_lin.specs.Sums.{Assignment, value, AreTerms, EachColumn, HoldAll, Within};
-ghost use Rattle.hys_lin.specs.Bits.{IsBit};
+ghost use Rattle.std.specs.Prelude.{◌≡◌, IfOk};
+ghost use Rattle.hys_number.specs.Ops.{whole, ◌<ₙ◌};
+ghost use Rattle.hys_lin.specs.Sums.{AreTerms, EachColumn};
 ghost use Rattle.hys_guard.specs.Numbers.{Judged, guard_numbers};
-ghost use Rattle.hys_lin.specs.Stated.{AreRows, IsRow, EachBelow};
+ghost use Rattle.hys_lin.specs.Stated.{AreRows, IsRow};
 ghost use Rattle.hys_guard.specs.Stated.{guard_stated, guarded_by};
+ghost use Rattle.hys_guard.specs.Meanings.{MeanGuard, BelowWith, TermsBelow};
 
 use crate::fault::GuardFault;
 use crate::numbers::difference;
@@ -30,9 +30,9 @@ pub fn guard_rows(
     requires tolerance { whole 0 <ₙ eps }
     requires terms { AreTerms number.now.terms }
     requires apart { EachColumn (λ c. ¬ (c ≡ column)) number.now.terms }
-    ensures meaning { IfOk result (λ rows. (v : Assignment) → Within range (value number.now v) → IsBit (v column) → HoldAll v rows.items ↔ (((value number.now v ≤ₙ whole 0) × (v column ≡ whole 1)) ⊎ ((eps ≤ₙ value number.now v) × (v column ≡ whole 0)))) }
+    ensures meaning { IfOk result (λ rows. MeanGuard number.now range eps column rows.items) }
     ensures stated { IfOk result (λ rows. AreRows rows.items (guard_stated number.now range eps column)) }
-    ensures below { IfOk result (λ rows. (n : ℕ) → column < n → EachColumn (λ c. c < n) number.now.terms → EachBelow n rows.items) }
+    ensures below { IfOk result (λ rows. BelowWith column number.now.terms rows.items) }
     ensures judged { Judged (guard_numbers number.now range eps) result }
 {
     let drop = difference(range.low, eps)?;
@@ -56,7 +56,7 @@ fn guard_row(
     requires terms { AreTerms number.now.terms }
     requires apart { EachColumn (λ c. ¬ (c ≡ column)) number.now.terms }
     ensures stated { IfOk result (λ r. IsRow r (guarded_by side number.now factor column bound)) }
-    ensures below { IfOk result (λ r. (n : ℕ) → column < n → EachColumn (λ c. c < n) number.now.terms → EachColumn (λ c. c < n) r.terms) }
+    ensures below { IfOk result (λ r. TermsBelow column number.now.terms r.terms) }
 {
     let terms = signed(alloc, side, number.terms.items())?;
     Ok(row_with(terms, column, factor, bound)?)

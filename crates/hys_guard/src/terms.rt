@@ -4,7 +4,8 @@ ghost use Rattle.hys_lin.specs.Sums.{AreTerms};
 ghost use Rattle.hys_lin.specs.Scaled.{coefficient};
 ghost use Rattle.hys_guard.specs.Numbers.{constant_by};
 ghost use Rattle.hys_guard.specs.declared.terms.Side.TheVariants.{Upper};
-ghost use Rattle.hys_guard.specs.Set.{Splits, TakenOut, IsSet, unit_by, signed as signed_terms};
+ghost use Rattle.hys_guard.specs.Meanings.{IsRowWith};
+ghost use Rattle.hys_guard.specs.Set.{Splits, TakenOut, IsSetTo, unit_by, signed as signed_terms};
 
 use hys_frac::{Frac, List};
 use hys_lin::{Row, Term};
@@ -67,7 +68,7 @@ fn take_out(terms: &mut Vec<Term>, column: u32) -> usize
 /// Sets the factor at a column; a factor 0 leaves no term there.
 pub fn set_factor(terms: &mut Vec<Term>, column: u32, factor: Frac) -> Result<(), AllocError>
     requires { AreTerms terms.old.items }
-    ensures { IfOk result (λ _. IsSet column (coefficient terms.old.items column) factor terms.old.items terms.new.items) }
+    ensures { IfOk result (λ _. IsSetTo column factor terms.old.items terms.new.items) }
 {
     let place = take_out(terms, column);
     if factor.is_zero() {
@@ -120,7 +121,7 @@ pub fn row_with(
     bound: Frac,
 ) -> Result<Row, AllocError>
     requires { AreTerms terms.items }
-    ensures { IfOk result (λ r. IsSet column (coefficient terms.items column) factor terms.items r.terms × (r.bound ≡ bound) × (r.eq ≡ false)) }
+    ensures { IfOk result (λ r. IsRowWith column factor bound terms.items r) }
 {
     set_factor(&mut terms, column, factor)?;
     Ok(Row {

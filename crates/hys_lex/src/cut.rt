@@ -50,7 +50,8 @@ pub fn tokens(alloc: Global, text: &[u8]) -> Result<Vec<Token>, LexFault>
     ensures rising { IfOk result (λ v. AllPairs Precedes v.items) }
     ensures err { IfErr result (λ e. e ≢ LexFault.Memory → IsFirstFault text.now e) }
     ensures no_cut { IfErr result (λ e. e ≢ LexFault.Memory → (tokens : List CutToken) → Cut text.now tokens → ⊥) }
-    ensures exact { (fault : Fault) → IsFirstFault text.now fault → IsErrOf result fault ⊎ IsErrOf result LexFault.Memory }
+    ensures exact { (fault : Fault) → IsFirstFault text.now fault → IsErrOf result fault ⊎
+        IsErrOf result LexFault.Memory }
 {
     let mut found = Vec::new(alloc);
     let mut at = 0;

@@ -1,8 +1,10 @@
 -- The operations of a computation in their order, and the first of them whose outcome doesn't fit.
-use Rattle.std.specs.Prelude.{List, [], ◌∷◌, Option, Some, None, cond}
+use Rattle.std.specs.Prelude.{ℕ, List, [], ◌∷◌, Option, Some, None, cond}
 use Rattle.hys_number.specs.Number.{Number}
 use Rattle.hys_number.specs.Ops.{◌+ₙ◌, ◌-ₙ◌, ◌*ₙ◌, ◌/ₙ◌, whole, fits}
 use Rattle.hys_lin.specs.declared.form.Term.{Term}
+use Rattle.hys_lin.specs.declared.form.Affine.{Affine}
+use Rattle.hys_lin.specs.declared.form.Row.{Row}
 use Rattle.hys_lin.specs.declared.lost.Lost.{Lost}
 use Rattle.hys_lin.specs.declared.lost.Op.TheVariants.{Add, Sub, Mul, Div}
 use Rattle.hys_lin.specs.declared.lost.Op.{Op}
@@ -38,7 +40,15 @@ over a b = record { op = Div; left = a; right = b }
 -- that product after the sum of what stands before
 abbrev pub summing : Number → List Term → (Term → Number) → List Lost
 summing start [] at = []
-summing start (t ∷ ts) at = times t.factor (at t) ∷ plus start (t.factor *ₙ at t) ∷ summing (start +ₙ t.factor *ₙ at t) ts at
+summing start (t ∷ ts) at =
+    times t.factor (at t) ∷ plus start (t.factor *ₙ at t) ∷ summing (start +ₙ t.factor *ₙ at t) ts at
+
+-- of the value of a form, from its constant, and of the sum of a row's terms, from 0
+abbrev pub valuing : Affine → (ℕ → Number) → List Lost
+valuing f v = summing f.constant f.terms (λ t. v t.column)
+
+abbrev pub row_summing : Row → (ℕ → Number) → List Lost
+row_summing r v = summing (whole 0) r.terms (λ t. v t.column)
 
 -- the sum of factor times number over the terms, with the number that `at` gives to a term
 abbrev pub sum_by : List Term → (Term → Number) → Number

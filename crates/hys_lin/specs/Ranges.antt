@@ -1,5 +1,5 @@
 -- The least and the greatest value of a form over boxes.
-use Rattle.std.specs.Prelude.{List, ℕ, ◌<◌, Bool, true, false, ℤ, pos, negsuc, length}
+use Rattle.std.specs.Prelude.{List, ◌++◌, ℕ, ◌<◌, Bool, true, false, ℤ, pos, negsuc, length}
 use Rattle.std.proofs.Common.{get_or}
 use Rattle.hys_number.specs.Number.{Number}
 use Rattle.hys_number.specs.Ops.{◌+ₙ◌, whole}
@@ -7,7 +7,8 @@ use Rattle.hys_lin.specs.declared.form.Term.{Term}
 use Rattle.hys_lin.specs.declared.form.Affine.{Affine}
 use Rattle.hys_lin.specs.declared.form.Interval.{Interval}
 use Rattle.hys_lin.specs.Sums.{Assignment, Within}
-use Rattle.hys_lin.specs.Operations.{sum_by}
+use Rattle.hys_lin.specs.declared.lost.Lost.{Lost}
+use Rattle.hys_lin.specs.Operations.{sum_by, summing}
 
 -- the box of a column
 abbrev pub box_at : List Interval → ℕ → Interval
@@ -30,3 +31,10 @@ end_at greatest boxes t = end_by_sign greatest t.factor.num (box_at boxes t.colu
 -- the constant and each product at that end
 abbrev pub end_of : (greatest : Bool) → Affine → List Interval → Number
 end_of greatest f boxes = f.constant +ₙ sum_by f.terms (end_at greatest boxes)
+
+-- the operations of one end, from the constant, and those of both, the low end's first
+abbrev pub ending : (greatest : Bool) → List Interval → Affine → List Lost
+ending greatest boxes f = summing f.constant f.terms (end_at greatest boxes)
+
+abbrev pub ranging : List Interval → Affine → List Lost
+ranging boxes f = ending false boxes f ++ ending true boxes f

@@ -12,6 +12,7 @@ use Rattle.hys_lin.specs.declared.lost.LinFault.{LinFault}
 use Rattle.hys_lin.specs.declared.lost.LinFault.TheVariants.{Memory}
 use Rattle.hys_lin.specs.declared.lost.LinFault.TheVariants.{Lost as Shown}
 use Rattle.hys_lin.specs.Operations.{first_lost, times, plus}
+use Rattle.hys_lin.specs.Sums.{Assignment, value, AreTerms}
 
 -- where the answer is no want of memory, it is the first lost operation, or none is lost
 abbrev pub AnswersLost : {T : Type 0} → Result T LinFault → List Lost → Type 0
@@ -41,6 +42,10 @@ scaling_form by f = scaling by f.terms ++ times by f.constant ∷ []
 abbrev pub adding_form : Affine → Number → Affine → List Lost
 adding_form f by g = adding f.terms by g.terms ++ times by g.constant ∷ plus f.constant (by *ₙ g.constant) ∷ []
 
+-- where both have rising columns and no factor 0, the answer tells the first of them that is lost, or that none is
+abbrev pub LosesMultiple : {T : Type 0} → Affine → Number → Affine → Result T LinFault → Type 0
+LosesMultiple f by g r = AreTerms f.terms → AreTerms g.terms → AnswersLost r (adding_form f by g)
+
 -- ---- the terms that the code makes
 abbrev pub kept_by : ℤ → Term → List Term
 kept_by (pos zero) t = []
@@ -61,6 +66,10 @@ taken Less a by b = a ∷ []
 taken Equal a by b = kept a.column (a.factor +ₙ by *ₙ b.factor)
 taken Greater a by b = kept b.column (by *ₙ b.factor)
 
+-- the next of them was appended
+abbrev pub TakesNext : Term → Number → Term → List Term → List Term → Type 0
+TakesNext a by b old new = new ≡ old ++ taken (nat_cmp a.column b.column) a by b
+
 abbrev pub taking : Ordering → Term → Number → Term → List Lost
 taking Less a by b = []
 taking Equal a by b = times by b.factor ∷ plus a.factor (by *ₙ b.factor) ∷ []
@@ -73,9 +82,15 @@ by_order Greater x y z = z
 
 abbrev pub merging : Term → List Term → (List Term → List Term) → Number → List Term → List Term
 merging a xs rest by [] = a ∷ xs
-merging a xs rest by (b ∷ bs) = taken (nat_cmp a.column b.column) a by b ++ by_order (nat_cmp a.column b.column) (rest (b ∷ bs)) (rest bs) (merging a xs rest by bs)
+merging a xs rest by (b ∷ bs) =
+    taken (nat_cmp a.column b.column) a by b
+    ++ by_order (nat_cmp a.column b.column) (rest (b ∷ bs)) (rest bs) (merging a xs rest by bs)
 
 -- terms with a multiple of others, in the order of their columns
 abbrev pub merged : List Term → Number → List Term → List Term
 merged [] by bs = scaled by bs
 merged (a ∷ xs) by bs = merging a xs (merged xs by) by bs
+
+-- the form has the value of the one plus the multiple of the other, under every assignment
+abbrev pub AddsMultiple : Affine → Number → Affine → Affine → Type 0
+AddsMultiple f by g r = (v : Assignment) → value r v ≡ value f v +ₙ by *ₙ value g v

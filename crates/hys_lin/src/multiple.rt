@@ -2,7 +2,7 @@ ghost use Rattle.std.specs.Prelude.{◌≡◌, ◌++◌, if◌then◌else◌, is
 ghost use Rattle.std.specs.Ordering.{nat_cmp};
 ghost use Rattle.hys_number.specs.Ops.{◌+ₙ◌, ◌*ₙ◌};
 ghost use Rattle.hys_lin.specs.Sums.{Assignment, value as value_of, AreTerms};
-ghost use Rattle.hys_lin.specs.Scaled.{AnswersLost, scaling, scaling_form, adding, adding_form, kept, scaled, taken, taking, merged};
+ghost use Rattle.hys_lin.specs.Scaled.{AnswersLost, scaling, scaling_form, adding, AddsMultiple, LosesMultiple, TakesNext, kept, scaled, taking, merged};
 
 use crate::checked::{add_product, multiply};
 use crate::form::{Affine, Term};
@@ -34,9 +34,9 @@ pub fn add_scaled(
     by: Frac,
     other: &Affine,
 ) -> Result<Affine, LinFault>
-    ensures value { IfOk result (λ r. (v : Assignment) → value_of r v ≡ value_of form.now v +ₙ by *ₙ value_of other.now v) }
+    ensures value { IfOk result (λ r. AddsMultiple form.now by other.now r) }
     ensures terms { IfOk result (λ r. AreTerms form.now.terms → AreTerms other.now.terms → AreTerms r.terms) }
-    ensures lost { AreTerms form.now.terms → AreTerms other.now.terms → AnswersLost result (adding_form form.now by other.now) }
+    ensures lost { LosesMultiple form.now by other.now result }
 {
     let mut terms = Vec::new(alloc);
     merge(&mut terms, form.terms.items(), by, other.terms.items())?;
@@ -71,7 +71,7 @@ fn merge(out: &mut Vec<Term>, left: &[Term], by: Frac, right: &[Term]) -> Result
 // Appends of two terms the one with the lower column, or both as one.
 fn take_next(out: &mut Vec<Term>, left: Term, by: Frac, right: Term) -> Result<Ordering, LinFault>
     ensures order { IfOk result (λ o. o ≡ nat_cmp left.column right.column) }
-    ensures items { IfOk result (λ o. out.new.items ≡ out.old.items ++ taken (nat_cmp left.column right.column) left by right) }
+    ensures items { IfOk result (λ o. TakesNext left by right out.old.items out.new.items) }
     ensures lost { AnswersLost result (taking (nat_cmp left.column right.column) left by right) }
 {
     let order = left.column.cmp(&right.column);

@@ -2,7 +2,7 @@ ghost use Rattle.std.specs.Prelude.{◌≡◌, ◌<◌, ◌++◌, length, IfOk, 
 ghost use Rattle.std.specs.Result.{result_err};
 ghost use Rattle.hys_lin.specs.Sums.{Assignment, value as value_of, EachColumn, Within};
 ghost use Rattle.hys_lin.specs.Operations.{first_lost, summing};
-ghost use Rattle.hys_lin.specs.Ranges.{InBoxes, end_by_sign, end_at, end_of};
+ghost use Rattle.hys_lin.specs.Ranges.{InBoxes, end_by_sign, end_at, end_of, ending, ranging};
 
 use crate::checked::add_product;
 use crate::form::{Affine, Interval};
@@ -16,7 +16,7 @@ pub fn range_of(form: &Affine, boxes: &[Interval]) -> Result<Interval, Lost>
     ensures low { IfOk result (λ r. r.low ≡ end_of false form.now boxes.now) }
     ensures high { IfOk result (λ r. r.high ≡ end_of true form.now boxes.now) }
     ensures holds { IfOk result (λ r. (v : Assignment) → InBoxes boxes.now v → Within r (value_of form.now v)) }
-    ensures lost { result_err result ≡ first_lost (summing form.now.constant form.now.terms (end_at false boxes.now) ++ summing form.now.constant form.now.terms (end_at true boxes.now)) }
+    ensures lost { result_err result ≡ first_lost (ranging boxes.now form.now) }
 {
     let low = end(form, boxes, false)?;
     let high = end(form, boxes, true)?;
@@ -27,7 +27,7 @@ pub fn range_of(form: &Affine, boxes: &[Interval]) -> Result<Interval, Lost>
 fn end(form: &Affine, boxes: &[Interval], greatest: bool) -> Result<Frac, Lost>
     requires { EachColumn (λ c. c < length boxes.now) form.now.terms }
     ensures value { IfOk result (λ r. r ≡ end_of greatest form.now boxes.now) }
-    ensures lost { result_err result ≡ first_lost (summing form.now.constant form.now.terms (end_at greatest boxes.now)) }
+    ensures lost { result_err result ≡ first_lost (ending greatest boxes.now form.now) }
 {
     let terms = form.terms.items();
     let mut sum = form.constant;

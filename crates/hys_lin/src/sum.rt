@@ -2,7 +2,7 @@ ghost use Rattle.std.specs.Prelude.{◌≡◌, ◌<◌, length, IfOk, IsTrue, �
 ghost use Rattle.std.specs.Result.{result_err};
 ghost use Rattle.hys_number.specs.Ops.{◌+ₙ◌, whole};
 ghost use Rattle.hys_lin.specs.Sums.{sum_of, value as value_of, Holds, EachColumn, at};
-ghost use Rattle.hys_lin.specs.Operations.{first_lost, summing};
+ghost use Rattle.hys_lin.specs.Operations.{first_lost, summing, valuing, row_summing};
 
 use crate::checked::add_product;
 use crate::form::{Affine, Point, Row, Term};
@@ -24,7 +24,7 @@ pub fn dot(terms: &[Term], point: &Point) -> Result<Frac, Lost>
 pub fn value(form: &Affine, point: &Point) -> Result<Frac, Lost>
     requires { EachColumn (λ c. c < length point.now.values) form.now.terms }
     ensures value { IfOk result (λ r. r ≡ value_of form.now (at point.now.values)) }
-    ensures lost { result_err result ≡ first_lost (summing form.now.constant form.now.terms (λ t. at point.now.values t.column)) }
+    ensures lost { result_err result ≡ first_lost (valuing form.now (at point.now.values)) }
 {
     sum_from(form.constant, form.terms.items(), point)
 }
@@ -34,7 +34,7 @@ pub fn value(form: &Affine, point: &Point) -> Result<Frac, Lost>
 pub fn row_holds(row: &Row, point: &Point) -> Result<bool, Lost>
     requires { EachColumn (λ c. c < length point.now.values) row.now.terms }
     ensures value { IfOk result (λ r. IsTrue r ↔ Holds (at point.now.values) row.now) }
-    ensures lost { result_err result ≡ first_lost (summing (whole 0) row.now.terms (λ t. at point.now.values t.column)) }
+    ensures lost { result_err result ≡ first_lost (row_summing row.now (at point.now.values)) }
 {
     let sum = dot(row.terms.items(), point)?;
     Ok(if row.eq {

@@ -1,13 +1,11 @@
-ghost use Rattle.std.specs.Prelude.{◌≡◌, ◌+◌, ◌*◌, ◌^◌, ◌≤◌, ◌<◌, ◌↔◌, IfOk, length, ℕ, Bool};
-ghost use Rattle.hys_number.specs.Number.{Number};
-ghost use Rattle.hys_lin.specs.Sums.{Assignment, value, AreTerms, EachColumn, HoldAll};
-ghost use Rattle.hys_lin.specs.Bits.{bit, IsBit};
-ghost use Rattle.hys_formula.specs.Formulas.{tree_of, connectives, EachName, truth};
+ghost use Rattle.std.specs.Prelude.{◌≡◌, ◌+◌, ◌*◌, ◌^◌, ◌≤◌, ◌<◌, IfOk, length};
+ghost use Rattle.hys_lin.specs.Sums.{AreTerms};
+ghost use Rattle.hys_formula.specs.Formulas.{tree_of, connectives};
 ghost use Rattle.hys_logic.specs.declared.row.Sign.TheVariants.{Plus, Minus};
 ghost use Rattle.hys_formula.specs.declared.formula.Connective.TheVariants.{And, Iff};
-ghost use Rattle.hys_logic.specs.Literals.{column_in, literal_of, number_of, LiteralBelow};
-ghost use Rattle.hys_logic.specs.Rows.{Added, Agrees, BitsFrom, fresh_of, stated_of, connective_stated, or_stated};
-ghost use Rattle.hys_lin.specs.Stated.{AreRows, EachBelow};
+ghost use Rattle.hys_logic.specs.Literals.{column_in, literal_of, LiteralBelow};
+ghost use Rattle.hys_logic.specs.Rows.{Added, or_stated};
+ghost use Rattle.hys_logic.specs.Meanings.{HaveColumns, HaveOneSolution, HasTruth, HasLiteral, HasRows, IsBelow, AddsFormula, AddsConnective};
 
 use crate::literal::{Literal, Logic};
 use crate::row::{Part, Sign, nothing, row_of};
@@ -33,17 +31,17 @@ pub fn rows_of(
     columns: &[u32],
     first_free: u32,
 ) -> Result<Logic, AllocError>
-    requires names { EachName (λ n. (n < length columns.now) × (column_in columns.now n < first_free)) (tree_of formula.now) }
+    requires names { HaveColumns columns.now first_free (tree_of formula.now) }
     requires room { first_free + connectives (tree_of formula.now) ≤ 2 ^ 32 }
     requires count { connectives (tree_of formula.now) < 2 ^ 32 }
-    ensures solution { IfOk result (λ l. (v : Assignment) → EachName (λ n. IsBit (v (column_in columns.now n))) (tree_of formula.now) → BitsFrom v first_free l.fresh → HoldAll v l.rows ↔ Agrees v first_free (fresh_of (tree_of formula.now) (λ n. v (column_in columns.now n)))) }
-    ensures literal { IfOk result (λ l. (v : Assignment) → EachName (λ n. IsBit (v (column_in columns.now n))) (tree_of formula.now) → Agrees v first_free (fresh_of (tree_of formula.now) (λ n. v (column_in columns.now n))) → value l.literal v ≡ bit (truth (tree_of formula.now) (λ n. v (column_in columns.now n)))) }
-    ensures literal_stated { IfOk result (λ l. (v : Assignment) → value l.literal v ≡ number_of (literal_of (column_in columns.now) first_free (tree_of formula.now)) v) }
+    ensures solution { IfOk result (λ l. HaveOneSolution columns.now first_free (tree_of formula.now) l) }
+    ensures literal { IfOk result (λ l. HasTruth columns.now first_free (tree_of formula.now) l) }
+    ensures literal_stated { IfOk result (λ l. HasLiteral columns.now first_free (tree_of formula.now) l) }
     ensures fresh { IfOk result (λ l. l.fresh ≡ connectives (tree_of formula.now)) }
-    ensures stated { IfOk result (λ l. AreRows l.rows (stated_of (column_in columns.now) first_free (tree_of formula.now))) }
+    ensures stated { IfOk result (λ l. HasRows columns.now first_free (tree_of formula.now) l) }
     ensures count { IfOk result (λ l. length l.rows ≤ 4 * connectives (tree_of formula.now)) }
     ensures form { IfOk result (λ l. AreTerms l.literal.terms × (length l.literal.terms ≤ 1)) }
-    ensures below { IfOk result (λ l. EachBelow (first_free + connectives (tree_of formula.now)) l.rows × EachColumn (λ c. c < first_free + connectives (tree_of formula.now)) l.literal.terms) }
+    ensures below { IfOk result (λ l. IsBelow (first_free + connectives (tree_of formula.now)) l) }
 {
     let mut rows = Vec::new(alloc);
     let made = add_rows(alloc, formula, columns, u64::from(first_free), &mut rows)?;
@@ -63,11 +61,12 @@ fn add_rows(
     next: u64,
     rows: &mut Vec<Row>,
 ) -> Result<Made, AllocError>
-    requires names { EachName (λ n. (n < length columns.now) × (column_in columns.now n < next)) (tree_of formula.now) }
+    requires names { HaveColumns columns.now next (tree_of formula.now) }
     requires room { next + connectives (tree_of formula.now) ≤ 2 ^ 32 }
     ensures literal { IfOk result (λ m. m.literal ≡ literal_of (column_in columns.now) next (tree_of formula.now)) }
     ensures next { IfOk result (λ m. m.next ≡ next + connectives (tree_of formula.now)) }
-    ensures added { IfOk result (λ _. Added rows.old.items rows.new.items (stated_of (column_in columns.now) next (tree_of formula.now)) (next + connectives (tree_of formula.now))) }
+    ensures added { IfOk result (λ _. 
+        AddsFormula columns.now next (tree_of formula.now) rows.old.items rows.new.items) }
 {
     match formula {
         Formula::Const(truth) => Ok(Made {
@@ -122,7 +121,7 @@ fn add_connective(
 ) -> Result<(), AllocError>
     requires left { LiteralBelow column left }
     requires right { LiteralBelow column right }
-    ensures { IfOk result (λ _. Added rows.old.items rows.new.items (connective_stated connective left right column) (column + 1)) }
+    ensures { IfOk result (λ _. AddsConnective connective left right column rows.old.items rows.new.items) }
 {
     match connective {
         Connective::And => add_and(alloc, left, right, column, rows)?,
@@ -162,7 +161,7 @@ fn add_and(
 ) -> Result<(), AllocError>
     requires left { LiteralBelow column left }
     requires right { LiteralBelow column right }
-    ensures { IfOk result (λ _. Added rows.old.items rows.new.items (connective_stated And left right column) (column + 1)) }
+    ensures { IfOk result (λ _. AddsConnective And left right column rows.old.items rows.new.items) }
 {
     rows.push(row_of(alloc, minus(left), nothing(), Sign::Plus, column, 0)?)?;
     rows.push(row_of(alloc, minus(right), nothing(), Sign::Plus, column, 0)?)?;
@@ -196,7 +195,7 @@ fn add_iff(
 ) -> Result<(), AllocError>
     requires left { LiteralBelow column left }
     requires right { LiteralBelow column right }
-    ensures { IfOk result (λ _. Added rows.old.items rows.new.items (connective_stated Iff left right column) (column + 1)) }
+    ensures { IfOk result (λ _. AddsConnective Iff left right column rows.old.items rows.new.items) }
 {
     rows.push(row_of(alloc, plus(left), minus(right), Sign::Plus, column, 1)?)?;
     rows.push(row_of(alloc, minus(left), plus(right), Sign::Plus, column, 1)?)?;

@@ -202,7 +202,8 @@ pub fn row_of(
     requires base { unsigned_abs base ≤ 1 }
     requires left { LiteralBelow column left.literal }
     requires right { LiteralBelow column right.literal }
-    ensures stated { IfOk result (λ r. IsRow r (row_by left.sign left.literal right.sign right.literal own column base)) }
+    ensures stated { IfOk result (λ r. IsRow r
+        (row_by left.sign left.literal right.sign right.literal own column base)) }
     ensures below { IfOk result (λ r. EachColumn (λ c. c < column + 1) r.terms) }
 {
     let mut terms = literal_terms(alloc, left, right)?;

@@ -1,6 +1,6 @@
 ghost use Rattle.std.specs.Prelude.{◌≡◌, ◌+◌, ◌≤◌, ◌<◌, IfSome, length};
-ghost use Rattle.hys_formula.specs.Formulas.{tree_of, connectives, EachName};
-ghost use Rattle.hys_logic.specs.Literals.{column_in};
+ghost use Rattle.hys_formula.specs.Formulas.{tree_of, connectives};
+ghost use Rattle.hys_logic.specs.Meanings.{HaveColumns};
 
 use crate::{Logic, rows_of};
 use hys_formula::{Connective, Formula};
@@ -10,7 +10,7 @@ use std::alloc::{AllocError, Global};
 // The number of connectives, if it is small and the names have columns below `first_free`.
 fn small(formula: &Formula, columns: &[u32], first_free: u32) -> Option<u32>
     ensures count { IfSome result (λ k. (k ≡ connectives (tree_of formula.now)) × (k ≤ 5000)) }
-    ensures names { IfSome result (λ _. EachName (λ n. (n < length columns.now) × (column_in columns.now n < first_free)) (tree_of formula.now)) }
+    ensures names { IfSome result (λ _. HaveColumns columns.now first_free (tree_of formula.now)) }
 {
     match formula {
         Formula::Const(_) => Some(0),

@@ -64,6 +64,9 @@
 -- - Trap: `length (l ∷ r) == 0` doesn't compute (native numbers): a lemma by `eqb-true`.
 -- - Trap: Where a lemma about a derivation needs a first lexeme (`must`), it is not in the reader's hands: prove
 --   that each derived list has one.
+-- - A whole example by computation: `whole_at (lexemes_of text tokens) ≡ Ok tree` by `refl`, with all readers
+--   under `unfolding`, then `whole_sound`; 250 bytes take seconds. A macro may hold a loop: invariants and answers
+--   keep their names.
 pub mod Heights
 pub mod Chains
 pub mod Turns

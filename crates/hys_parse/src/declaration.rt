@@ -37,7 +37,8 @@ fn declared(
     high: Option<Expr>,
     value: Option<Expr>,
 ) -> Result<Decl, AllocError>
-    ensures { IfOk result (λ d. decl_of d ≡ reading.decl_with section kind name.now (maybe_tree_of low) (maybe_tree_of high) (maybe_tree_of value)) }
+    ensures { IfOk result (λ d. decl_of d ≡
+        reading.decl_with section kind name.now (maybe_tree_of low) (maybe_tree_of high) (maybe_tree_of value)) }
 {
     Ok(Decl {
         section,
@@ -73,7 +74,8 @@ fn bounded<'a>(
     name: &Lexeme,
     tokens: &'a [Lexeme],
 ) -> Result<(Decl, &'a [Lexeme]), Stop>
-    ensures gives { Gives (λ p. (decl_of p.0, p.1.now)) result (reading.bounded_at room section kind name.now tokens.now) }
+    ensures gives { Gives (λ p. (decl_of p.0, p.1.now)) result
+        (reading.bounded_at room section kind name.now tokens.now) }
     ensures shorter { IfOk result (λ p. length p.1.now ≤ length tokens.now) }
 {
     let (low, rest) = expression(alloc, room, tokens)?;
@@ -96,7 +98,8 @@ fn valued<'a>(
     name: &Lexeme,
     tokens: &'a [Lexeme],
 ) -> Result<(Decl, &'a [Lexeme]), Stop>
-    ensures gives { Gives (λ p. (decl_of p.0, p.1.now)) result (reading.valued_at room section kind name.now tokens.now) }
+    ensures gives { Gives (λ p. (decl_of p.0, p.1.now)) result
+        (reading.valued_at room section kind name.now tokens.now) }
     ensures shorter { IfOk result (λ p. length p.1.now ≤ length tokens.now) }
 {
     let (value, rest) = expression(alloc, room, tokens)?;
@@ -143,7 +146,8 @@ fn name_turn(
     mut decls: Vec<Decl>,
     tokens: &[Lexeme],
 ) -> Result<(Vec<Decl>, bool, &[Lexeme]), Stop>
-    ensures gives { Gives (λ p. (map decl_of p.0.items, p.1, p.2.now)) result (reading.name_turn room section kind (map decl_of decls.items) tokens.now) }
+    ensures gives { Gives (λ p. (map decl_of p.0.items, p.1, p.2.now)) result
+        (reading.name_turn room section kind (map decl_of decls.items) tokens.now) }
     ensures shorter { IfOk result (λ p. length p.2.now < length tokens.now) }
 {
     let (found, rest) = declaration(alloc, room, section, kind, tokens)?;
@@ -162,7 +166,8 @@ fn names(
     decls: Vec<Decl>,
     tokens: &[Lexeme],
 ) -> Result<(Vec<Decl>, &[Lexeme]), Stop>
-    ensures gives { Gives (λ p. (map decl_of p.0.items, p.1.now)) result (reading.all_turns (reading.name_turn room section kind) (map decl_of decls.items) tokens.now) }
+    ensures gives { Gives (λ p. (map decl_of p.0.items, p.1.now)) result
+        (reading.all_turns (reading.name_turn room section kind) (map decl_of decls.items) tokens.now) }
     ensures shorter { IfOk result (λ p. length p.1.now < length tokens.now) }
 {
     all_turns!(name_turn(alloc, room, section, kind), decls, tokens)
@@ -198,7 +203,8 @@ fn line(
     decls: Vec<Decl>,
     tokens: &[Lexeme],
 ) -> Result<(Vec<Decl>, bool, &[Lexeme]), Stop>
-    ensures gives { Gives (λ p. (map decl_of p.0.items, p.1, p.2.now)) result (reading.line_at room section kind (map decl_of decls.items) tokens.now) }
+    ensures gives { Gives (λ p. (map decl_of p.0.items, p.1, p.2.now)) result
+        (reading.line_at room section kind (map decl_of decls.items) tokens.now) }
     ensures shorter { IfOk result (λ p. length p.2.now < length tokens.now) }
 {
     let (found, rest) = names(alloc, room, section, kind, decls, tokens)?;
@@ -214,7 +220,8 @@ fn line_turn(
     decls: Vec<Decl>,
     tokens: &[Lexeme],
 ) -> Result<(Vec<Decl>, bool, &[Lexeme]), Stop>
-    ensures gives { Gives (λ p. (map decl_of p.0.items, p.1, p.2.now)) result (reading.line_turn room section (map decl_of decls.items) tokens.now) }
+    ensures gives { Gives (λ p. (map decl_of p.0.items, p.1, p.2.now)) result
+        (reading.line_turn room section (map decl_of decls.items) tokens.now) }
     ensures shorter { IfOk result (λ p. length p.2.now ≤ length tokens.now) }
     ensures takes { IfOk result (λ p. IsTrue p.1 → length p.2.now < length tokens.now) }
 {
@@ -232,7 +239,8 @@ pub fn declarations(
     decls: Vec<Decl>,
     tokens: &[Lexeme],
 ) -> Result<(Vec<Decl>, &[Lexeme]), Stop>
-    ensures gives { Gives (λ p. (map decl_of p.0.items, p.1.now)) result (reading.all_turns (reading.line_turn room section) (map decl_of decls.items) tokens.now) }
+    ensures gives { Gives (λ p. (map decl_of p.0.items, p.1.now)) result
+        (reading.all_turns (reading.line_turn room section) (map decl_of decls.items) tokens.now) }
     ensures shorter { IfOk result (λ p. length p.1.now ≤ length tokens.now) }
 {
     all_turns!(line_turn(alloc, room, section), decls, tokens)

@@ -134,7 +134,8 @@ fn binary(
     level: Level,
     tokens: &[Lexeme],
 ) -> Result<(Expr, &[Lexeme]), Stop>
-    ensures gives { Gives (λ p. (tree_of p.0, p.1.now)) result (binary_at level (operand_at (nested room) level) tokens.now) }
+    ensures gives { Gives (λ p. (tree_of p.0, p.1.now)) result
+        (binary_at level (operand_at (nested room) level) tokens.now) }
     ensures shorter { IfOk result (λ p. length p.1.now < length tokens.now) }
 {
     let (mut left, mut rest) = match operand(alloc, room, level, tokens) {

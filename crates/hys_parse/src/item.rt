@@ -69,7 +69,8 @@ fn tolerance(
     comparison: Expr,
     tokens: &[Lexeme],
 ) -> Result<(Shape, &[Lexeme]), Stop>
-    ensures gives { Gives (λ p. (shape_of p.0, p.1.now)) result (reading.tolerance_at room (tree_of comparison) tokens.now) }
+    ensures gives { Gives (λ p. (shape_of p.0, p.1.now)) result
+        (reading.tolerance_at room (tree_of comparison) tokens.now) }
     ensures shorter { IfOk result (λ p. length p.1.now < length tokens.now) }
 {
     let (whole, rest) = expression(alloc, room, tokens)?;
@@ -172,7 +173,8 @@ fn item_turn(
     mut items: Vec<Item>,
     tokens: &[Lexeme],
 ) -> Result<(Vec<Item>, bool, &[Lexeme]), Stop>
-    ensures gives { Gives (λ p. (map item_of p.0.items, p.1, p.2.now)) result (reading.item_turn room section (map item_of items.items) tokens.now) }
+    ensures gives { Gives (λ p. (map item_of p.0.items, p.1, p.2.now)) result
+        (reading.item_turn room section (map item_of items.items) tokens.now) }
     ensures shorter { IfOk result (λ p. length p.2.now < length tokens.now) }
 {
     match after(TokenKind::Sign(sign::CLOSE_BRACE), tokens) {
@@ -193,7 +195,8 @@ pub fn items(
     items: Vec<Item>,
     tokens: &[Lexeme],
 ) -> Result<(Vec<Item>, &[Lexeme]), Stop>
-    ensures gives { Gives (λ p. (map item_of p.0.items, p.1.now)) result (reading.all_turns (reading.item_turn room section) (map item_of items.items) tokens.now) }
+    ensures gives { Gives (λ p. (map item_of p.0.items, p.1.now)) result
+        (reading.all_turns (reading.item_turn room section) (map item_of items.items) tokens.now) }
     ensures shorter { IfOk result (λ p. length p.1.now < length tokens.now) }
 {
     all_turns!(item_turn(alloc, room, section), items, tokens)

@@ -9,18 +9,22 @@ ghost use Rattle.hys_parse.specs.Cause.{IsUngrammatical};
 
 /// At most one tree derives the tokens of a text.
 pub fn one_tree()
-    ensures { (text : List ℕ) (tokens : List Token) (a b : Tree) → IsTreeOf text tokens a → IsTreeOf text tokens b → a ≡ b }
+    ensures { (text : List ℕ) (tokens : List Token) (a b : Tree) → IsTreeOf text tokens a → IsTreeOf text tokens b →
+        a ≡ b }
 {}
 
 /// Tokens with a tree have no syntax fault, and others have at most one.
 pub fn one_fault()
-    ensures apart { (text : List ℕ) (tokens : List Token) (k : ℕ) (tree : Tree) → IsUngrammatical text tokens k → IsTreeOf text tokens tree → ⊥ }
-    ensures one { (text : List ℕ) (tokens : List Token) (j k : ℕ) → IsUngrammatical text tokens j → IsUngrammatical text tokens k → j ≡ k }
+    ensures apart { (text : List ℕ) (tokens : List Token) (k : ℕ) (tree : Tree) → IsUngrammatical text tokens k →
+        IsTreeOf text tokens tree → ⊥ }
+    ensures one { (text : List ℕ) (tokens : List Token) (j k : ℕ) → IsUngrammatical text tokens j →
+        IsUngrammatical text tokens k → j ≡ k }
 {}
 
 /// Tokens none of which is deep have a tree or a syntax fault: with the law above, exactly one of the two.
 pub fn tree_or_fault()
-    ensures { (text : List ℕ) (tokens : List Token) → IsShallow tokens → ((tree : Tree) × IsTreeOf text tokens tree) ⊎ ((k : ℕ) × IsUngrammatical text tokens k) }
+    ensures { (text : List ℕ) (tokens : List Token) → IsShallow tokens → ((tree : Tree) ×
+        IsTreeOf text tokens tree) ⊎ ((k : ℕ) × IsUngrammatical text tokens k) }
 {}
 
 /// The depth that is counted from token to token is what depth is.

@@ -114,7 +114,8 @@ fn decl_block(
     draft: Draft,
     tokens: &[Lexeme],
 ) -> Result<(Draft, &[Lexeme]), Stop>
-    ensures gives { Gives (λ p. (reading.draft_of p.0, p.1.now)) result (reading.decls_at room section (reading.draft_of draft) tokens.now) }
+    ensures gives { Gives (λ p. (reading.draft_of p.0, p.1.now)) result
+        (reading.decls_at room section (reading.draft_of draft) tokens.now) }
     ensures shorter { IfOk result (λ p. length p.1.now < length tokens.now) }
 {
     let Draft { seen, decls, items } = draft;
@@ -132,7 +133,8 @@ fn item_block(
     draft: Draft,
     tokens: &[Lexeme],
 ) -> Result<(Draft, &[Lexeme]), Stop>
-    ensures gives { Gives (λ p. (reading.draft_of p.0, p.1.now)) result (reading.items_at room section (reading.draft_of draft) tokens.now) }
+    ensures gives { Gives (λ p. (reading.draft_of p.0, p.1.now)) result
+        (reading.items_at room section (reading.draft_of draft) tokens.now) }
     ensures shorter { IfOk result (λ p. length p.1.now < length tokens.now) }
 {
     let Draft {
@@ -153,7 +155,8 @@ fn block(
     draft: Draft,
     tokens: &[Lexeme],
 ) -> Result<(Draft, &[Lexeme]), Stop>
-    ensures gives { Gives (λ p. (reading.draft_of p.0, p.1.now)) result (reading.block_at room section (reading.draft_of draft) tokens.now) }
+    ensures gives { Gives (λ p. (reading.draft_of p.0, p.1.now)) result
+        (reading.block_at room section (reading.draft_of draft) tokens.now) }
     ensures shorter { IfOk result (λ p. length p.1.now < length tokens.now) }
 {
     let (_, rest) = expect(TokenKind::Sign(sign::OPEN_BRACE), tokens)?;
@@ -173,7 +176,8 @@ fn section_turn(
     draft: Draft,
     tokens: &[Lexeme],
 ) -> Result<(Draft, bool, &[Lexeme]), Stop>
-    ensures gives { Gives (λ p. (reading.draft_of p.0, p.1, p.2.now)) result (reading.section_turn room part (reading.draft_of draft) tokens.now) }
+    ensures gives { Gives (λ p. (reading.draft_of p.0, p.1, p.2.now)) result
+        (reading.section_turn room part (reading.draft_of draft) tokens.now) }
     ensures shorter { IfOk result (λ p. length p.2.now ≤ length tokens.now) }
     ensures takes { IfOk result (λ p. IsTrue p.1 → length p.2.now < length tokens.now) }
 {
@@ -196,7 +200,8 @@ fn sections(
     draft: Draft,
     tokens: &[Lexeme],
 ) -> Result<(Draft, &[Lexeme]), Stop>
-    ensures gives { Gives (λ p. (reading.draft_of p.0, p.1.now)) result (reading.all_turns (reading.section_turn room part) (reading.draft_of draft) tokens.now) }
+    ensures gives { Gives (λ p. (reading.draft_of p.0, p.1.now)) result
+        (reading.all_turns (reading.section_turn room part) (reading.draft_of draft) tokens.now) }
     ensures shorter { IfOk result (λ p. length p.1.now ≤ length tokens.now) }
 {
     all_turns!(section_turn(alloc, room, part), draft, tokens)
@@ -211,7 +216,8 @@ fn part_of(
     decls: Vec<Decl>,
     tokens: &[Lexeme],
 ) -> Result<(Draft, &[Lexeme]), Stop>
-    ensures gives { Gives (λ p. (reading.draft_of p.0, p.1.now)) result (reading.part_at room part (map decl_of decls.items) tokens.now) }
+    ensures gives { Gives (λ p. (reading.draft_of p.0, p.1.now)) result
+        (reading.part_at room part (map decl_of decls.items) tokens.now) }
     ensures shorter { IfOk result (λ p. length p.1.now < length tokens.now) }
 {
     let (_, rest) = expect(TokenKind::Sign(sign::OPEN_BRACE), tokens)?;

@@ -71,11 +71,19 @@ is_short digits = nat_le 1 (length digits) && nat_le (length digits) 6 && list_a
 
 abbrev pub is_literal : Tree → Bool
 is_literal (tree.Number digits p) = is_short digits
-is_literal _ = false
+is_literal (tree.Name n p) = false
+is_literal (tree.Truth b p) = false
+is_literal (tree.Cast n p) = false
+is_literal (tree.Unary op a p) = false
+is_literal (tree.Binary op a b p) = false
 
 abbrev pub is_name : Tree → Bool
+is_name (tree.Number digits p) = false
 is_name (tree.Name n p) = true
-is_name _ = false
+is_name (tree.Truth b p) = false
+is_name (tree.Cast n p) = false
+is_name (tree.Unary op a p) = false
+is_name (tree.Binary op a b p) = false
 
 abbrev pub is_minus : UnaryOp → Bool
 is_minus unary.Not = false
@@ -83,13 +91,32 @@ is_minus unary.Neg = true
 is_minus unary.Plus = false
 
 abbrev pub is_times : BinaryOp → Bool
+is_times binary.Add = false
+is_times binary.Sub = false
 is_times binary.Mul = true
-is_times _ = false
+is_times binary.Div = false
+is_times binary.And = false
+is_times binary.Or = false
+is_times binary.Iff = false
+is_times binary.Then = false
+is_times binary.From = false
+is_times binary.Most = false
+is_times binary.Least = false
+is_times binary.Equal = false
 
 abbrev pub is_plus_or_minus : BinaryOp → Bool
 is_plus_or_minus binary.Add = true
 is_plus_or_minus binary.Sub = true
-is_plus_or_minus _ = false
+is_plus_or_minus binary.Mul = false
+is_plus_or_minus binary.Div = false
+is_plus_or_minus binary.And = false
+is_plus_or_minus binary.Or = false
+is_plus_or_minus binary.Iff = false
+is_plus_or_minus binary.Then = false
+is_plus_or_minus binary.From = false
+is_plus_or_minus binary.Most = false
+is_plus_or_minus binary.Least = false
+is_plus_or_minus binary.Equal = false
 
 -- a literal, or `-` and a literal
 abbrev pub is_signed_literal : Tree → Bool
@@ -101,7 +128,9 @@ abbrev pub is_part : Tree → Bool
 is_part (tree.Number digits p) = is_short digits
 is_part (tree.Name n p) = true
 is_part (tree.Binary op a b p) = is_times op && is_literal a && is_name b
-is_part _ = false
+is_part (tree.Truth b p) = false
+is_part (tree.Cast n p) = false
+is_part (tree.Unary op a p) = false
 
 -- a part, or `-` and a part
 abbrev pub is_first_part : Tree → Bool
@@ -111,7 +140,8 @@ is_first_part e = is_part e
 
 -- parts joined by `+` or `-`, with a `-` before the first or not
 abbrev pub is_sum : Tree → Bool
-is_sum (tree.Binary op a b p) = cond (is_plus_or_minus op) (is_sum a && is_part b) (is_first_part (tree.Binary op a b p))
+is_sum (tree.Binary op a b p) =
+    cond (is_plus_or_minus op) (is_sum a && is_part b) (is_first_part (tree.Binary op a b p))
 is_sum e = is_first_part e
 
 -- the names in an expression, in the order of the text
@@ -128,12 +158,15 @@ abbrev pub lone_literals : Tree → ℕ
 lone_literals (tree.Number digits p) = 1
 lone_literals (tree.Unary op a p) = lone_literals a
 lone_literals (tree.Binary op a b p) = cond (is_plus_or_minus op) (lone_literals a + lone_literals b) 0
-lone_literals _ = 0
+lone_literals (tree.Name n p) = 0
+lone_literals (tree.Truth b p) = 0
+lone_literals (tree.Cast n p) = 0
 
 -- a sum of parts over these names, each at most once, with at most one literal alone
 abbrev pub is_right_side : List (List ℕ) → Tree → Bool
 is_right_side declared e =
-    is_sum e && differ (names_in e) && nat_le (lone_literals e) 1 && list_all (λ n. list_any (bytes_eq n) declared) (names_in e)
+    is_sum e && differ (names_in e) && nat_le (lone_literals e) 1
+    && list_all (λ n. list_any (bytes_eq n) declared) (names_in e)
 
 -- ---- declarations and items
 abbrev pub is_end : Option Tree → Bool
@@ -142,11 +175,23 @@ is_end None = false
 
 -- a real state or input without a value, whose box has literals as its ends
 abbrev pub is_plain_decl : Decl → Bool
-is_plain_decl d = (is_state d.section || is_input d.section) && is_real d.kind && is_end d.low && is_end d.high && is_none d.value
+is_plain_decl d =
+    (is_state d.section || is_input d.section) && is_real d.kind && is_end d.low && is_end d.high && is_none d.value
 
 abbrev pub is_continuous : Section → Bool
+is_continuous section.State = false
+is_continuous section.Input = false
+is_continuous section.Output = false
+is_continuous section.Parameter = false
+is_continuous section.Aux = false
+is_continuous section.Ad = false
+is_continuous section.Da = false
+is_continuous section.Logic = false
+is_continuous section.Linear = false
+is_continuous section.Automata = false
 is_continuous section.Continuous = true
-is_continuous _ = false
+is_continuous section.OutputItem = false
+is_continuous section.Must = false
 
 abbrev pub is_plain_shape : List (List ℕ) → Shape → Bool
 is_plain_shape declared (tree.Plain e) = is_right_side declared e

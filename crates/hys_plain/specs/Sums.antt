@@ -20,7 +20,11 @@ pub record IsJoined (e a : Tree) (op : BinaryOp) (b : Tree) : Type 0 where
 
 abbrev pub is_joined : Tree → Bool
 is_joined (tree.Binary op a b p) = is_plus_or_minus op
-is_joined _ = false
+is_joined (tree.Number text p) = false
+is_joined (tree.Name n p) = false
+is_joined (tree.Truth b p) = false
+is_joined (tree.Cast n p) = false
+is_joined (tree.Unary op a p) = false
 
 -- ---- parts
 -- what a part is about: a name, or none where it is a literal alone

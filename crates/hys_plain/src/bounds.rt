@@ -124,7 +124,8 @@ fn is_part(section: Section, states: bool) -> bool
 /// The boxes of the states, or those of the inputs, in the order of the text.
 pub fn boxes(alloc: Global, decls: &[Decl], states: bool) -> Result<Vec<Boxed>, AllocError>
     requires { AllByRecursion (λ d. IsTrue (is_plain_decl d)) (map decl_of decls.now) }
-    ensures { IfOk result (λ v. (w : Assignment) → v.items ≡ boxes_of states (map (name_of w) (map decl_of decls.now))) }
+    ensures { IfOk result (λ v. (w : Assignment) →
+        v.items ≡ boxes_of states (map (name_of w) (map decl_of decls.now))) }
 {
     let mut found = Vec::new(alloc);
     for decl in decls {

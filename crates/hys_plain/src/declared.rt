@@ -31,7 +31,8 @@ pub fn differ(decls: &[Decl]) -> bool
 }
 
 fn is_real_state(decl: &Decl) -> bool
-    ensures { (w : Assignment) → result ≡ (is_state (name_of w (decl_of decl.now)).section && is_real (name_of w (decl_of decl.now)).kind) }
+    ensures { (w : Assignment) → result ≡
+        (is_state (name_of w (decl_of decl.now)).section && is_real (name_of w (decl_of decl.now)).kind) }
 {
     matches!(decl.section, Section::State) && matches!(decl.kind, Kind::Real)
 }
@@ -39,7 +40,8 @@ fn is_real_state(decl: &Decl) -> bool
 /// Whether the name is that of a real state.
 #[tactic(auto, using(crate::proofs::Looking::look_here))]
 pub fn is_state(name: &Text, decls: &[Decl]) -> bool
-    ensures { (w : Assignment) → result ≡ is_left is_state is_real (look (map (name_of w) (map decl_of decls.now)) name.now) }
+    ensures { (w : Assignment) → result ≡
+        is_left is_state is_real (look (map (name_of w) (map decl_of decls.now)) name.now) }
 {
     match decls.split_first() {
         None => false,

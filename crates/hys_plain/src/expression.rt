@@ -67,7 +67,8 @@ fn joins(op: BinaryOp) -> bool
 
 /// The operands of a sum or a difference, with its operator.
 pub fn joined(whole: &Expr) -> Option<(&Expr, BinaryOp, &Expr)>
-    ensures { MatchOption result (is_joined (tree_of whole.now) ≡ false) (λ p. IsJoined (tree_of whole.now) (tree_of p.0.now) p.1 (tree_of p.2.now)) }
+    ensures { MatchOption result (is_joined (tree_of whole.now) ≡ false)
+        (λ p. IsJoined (tree_of whole.now) (tree_of p.0.now) p.1 (tree_of p.2.now)) }
 {
     match whole {
         Expr::Binary(op, left, right, _) => {

@@ -36,7 +36,8 @@ fn name_at<'a>(states: &'a [Boxed], inputs: &'a [Boxed], column: usize) -> &'a T
 fn push_term(terms: &mut Vec<Term>, column: u32, factor: Frac) -> Result<(), AllocError>
     requires { AreTermsOver column terms.old.items }
     ensures over { OnOk result (AreTermsOver (column + 1) terms.new.items) }
-    ensures sum { OnOk result ((v : ℕ → Number) → sum_of terms.new.items v ≡ sum_of terms.old.items v +ₙ factor *ₙ v column) }
+    ensures sum { OnOk result ((v : ℕ → Number) →
+        sum_of terms.new.items v ≡ sum_of terms.old.items v +ₙ factor *ₙ v column) }
 {
     if factor.num() != 0 {
         terms.push(Term { column, factor })?;
@@ -55,7 +56,9 @@ fn terms(
     requires once { (n : List ℕ) → mentions (Some n) (tree_of whole.now) ≤ 1 }
     requires few { length states.now + length inputs.now ≤ 200 }
     ensures over { IfOk result (λ v. AreTermsOver (length states.now + length inputs.now) v.items) }
-    ensures sum { IfOk result (λ v. (w : Assignment) → sum_of v.items (at (map w (names_of (states.now ++ inputs.now)))) ≡ spread (names_of (states.now ++ inputs.now)) (term_of (tree_of whole.now) w)) }
+    ensures sum { IfOk result (λ v. (w : Assignment) →
+        sum_of v.items (at (map w (names_of (states.now ++ inputs.now)))) ≡
+        spread (names_of (states.now ++ inputs.now)) (term_of (tree_of whole.now) w)) }
 {
     let mut terms = Vec::new(alloc);
     for column in 0..states.len() + inputs.len() {
@@ -79,7 +82,8 @@ pub fn form(
     requires few { length states.now + length inputs.now ≤ 200 }
     requires placed { StandOnce (names_of (states.now ++ inputs.now)) (names_in (tree_of whole.now)) }
     ensures over { IfOk result (λ f. AreTermsOver (length states.now + length inputs.now) f.terms) }
-    ensures value { IfOk result (λ f. (w : Assignment) → value_of f (at (map w (names_of (states.now ++ inputs.now)))) ≡ value w (tree_of whole.now)) }
+    ensures value { IfOk result (λ f. (w : Assignment) →
+        value_of f (at (map w (names_of (states.now ++ inputs.now)))) ≡ value w (tree_of whole.now)) }
 {
     let terms = terms(alloc, whole, states, inputs)?;
     Ok(Affine {

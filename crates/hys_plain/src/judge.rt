@@ -16,7 +16,8 @@ const NAMES: usize = 200;
 
 #[tactic(auto, using(crate::proofs::Judged::plain_is, crate::proofs::Judged::plain_few, crate::proofs::Judged::plain_kinds, crate::proofs::Judged::plain_boxed, crate::proofs::Judged::plain_differ, crate::proofs::Judged::plain_items))]
 fn judge(tokens: &[Token], decls: &[Decl], items: &[Item]) -> bool
-    ensures { (system : List ℕ) → IsTrue result ↔ IsPlain tokens.now (record { system = system; decls = map decl_of decls.now; items = map item_of items.now }) }
+    ensures { (system : List ℕ) → IsTrue result ↔
+        IsPlain tokens.now (record { system = system; decls = map decl_of decls.now; items = map item_of items.now }) }
 {
     if decls.len() > NAMES {
         return false;

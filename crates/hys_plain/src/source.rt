@@ -58,7 +58,8 @@ pub fn plain(
     requires small { length text.now < 2 ^ 32 - 1 }
     ensures ok { IfOk result (λ p. IsPlain tokens.now (source_of source.now)) }
     ensures parts { IfOk result (λ p. PartsOf (source_of source.now) p) }
-    ensures refused { (place : Place) → result ≡ Err (NotYet place) → (place ≡ unbuilt_place text.now tokens.now) × (IsPlain tokens.now (source_of source.now) → ⊥) }
+    ensures refused { (place : Place) → result ≡ Err (NotYet place) → (place ≡ unbuilt_place text.now tokens.now) ×
+        (IsPlain tokens.now (source_of source.now) → ⊥) }
 {
     if !is_plain(tokens, source) {
         return Err(PlainFault::NotYet(refused_at(text, tokens)));

@@ -3,3 +3,12 @@ pub mod Crossed
 pub mod Defined
 pub mod Names
 pub mod Members
+pub mod Stopping
+pub mod Walking
+pub mod Placing
+pub mod Deciding
+pub mod Reading
+pub mod Assigning
+pub mod Valuing
+pub mod Judging
+pub mod Guards

@@ -1,8 +1,19 @@
 //! What holds of programs, as calls that do nothing.
 
-ghost use Rattle.std.specs.Prelude.{◌<◌, ℕ};
-ghost use Rattle.hys_prog.specs.Programs.{IsProgram};
+ghost use Rattle.std.specs.Prelude.{◌≡◌, ◌↔◌, ◌<◌, ℕ, List, None, Some, false, length};
+ghost use Rattle.hys_number.specs.Number.{Number};
+ghost use Rattle.hys_number.specs.Ops.{whole};
+ghost use Rattle.hys_lin.specs.Operations.{plus};
+ghost use Rattle.hys_lin.specs.Sums.{Assignment};
+ghost use Rattle.hys_prog.specs.Programs.{IsProgram, NameAt};
+ghost use Rattle.hys_prog.specs.Orders.{IsOrder};
+ghost use Rattle.hys_prog.specs.Steps.{Legal, Step, places, is_input, is_output, is_state};
+ghost use Rattle.hys_prog.specs.Stops.{AllFit, Check, IsLawful, IsValued, first_stop, number_in, numbers_in, stops};
+ghost use Rattle.hys_prog.specs.declared.program.Program.{Program};
+ghost use Rattle.hys_prog.specs.declared.program.Order.{Order};
+ghost use Rattle.hys_prog.specs.declared.stop.Stop.TheVariants.{Bounds, Gap, Must, Range};
 ghost use Rattle.hys_prog.specs.Example.{example, crossed as two_auxiliaries};
+ghost use Rattle.hys_prog.specs.Guarded.{at_tolerance, both, d_first, demanding, guarded, in_gap, least, minus_least};
 
 /// The program of one state x that keeps its value is a lawful program.
 pub fn smallest()
@@ -12,4 +23,48 @@ pub fn smallest()
 /// The program of two auxiliaries is a lawful program, whichever name the second one mentions.
 pub fn crossed()
     ensures { (c : ℕ) → c < 3 → IsProgram (two_auxiliaries c) }
+{}
+
+/// Where there is an order of definition, each choice of the states' and the inputs' values has an
+/// assignment of exact numbers. Two of them agree on all names that aren't outputs, and their steps
+/// on the next values and the outputs.
+pub fn one_assignment()
+    ensures exists { (p : Program) (o : Order) (x u : List Number) → IsProgram p → IsOrder p o →
+        length x ≡ length (places is_state p) → length u ≡ length (places is_input p) → (w : Assignment) ×
+        IsValued p x u w }
+    ensures same { (p : Program) (o : Order) (x u : List Number) (v w : Assignment) → IsProgram p → IsOrder p o →
+        IsValued p x u v → IsValued p x u w → (n : ℕ) → NameAt p.names n (λ k. is_output k.role ≡ false) → v n ≡ w n }
+    ensures step { (p : Program) (o : Order) (x u : List Number) (v w : Assignment) (x1 x2 y1 y2 : List Number) →
+        IsProgram p → IsOrder p o → Step p x u v x1 y1 → Step p x u w x2 y2 → (x1 ≡ x2) × (y1 ≡ y2) }
+{}
+
+/// No check fails exactly where those of boxes, gaps and demands pass and all numbers fit. The
+/// former do exactly where the assignment is a legal step with the next values and the outputs that
+/// the items give.
+pub fn no_stop_is_legal()
+    ensures none { (cs : List Check) → (first_stop cs ≡ None) ↔ (IsLawful cs × AllFit cs) }
+    ensures legal { (p : Program) (o : Order) (x u : List Number) (w : Assignment) → IsProgram p → IsOrder p o →
+        IsValued p x u w → IsLawful (stops p o w) ↔ Legal p x u w (numbers_in w p.items (places is_state p))
+        (numbers_in w p.items (places is_output p)) }
+{}
+
+/// The guard program at the edge of its guard, in the gap, at the tolerance, outside the box, and
+/// where a partial sum doesn't fit.
+pub fn guard_stops()
+    ensures edge { first_stop (stops guarded d_first (both (whole 5) (whole 1))) ≡ None }
+    ensures edge_value { number_in (both (whole 5) (whole 1)) 1 guarded.items ≡ whole 1 }
+    ensures gap { first_stop (stops guarded d_first (both in_gap (whole 0))) ≡ Some (Gap 0) }
+    ensures tolerance { first_stop (stops guarded d_first (both at_tolerance (whole 0))) ≡ None }
+    ensures tolerance_value { number_in (both at_tolerance (whole 0)) 1 guarded.items ≡ whole 0 }
+    ensures outside { first_stop (stops guarded d_first (both (whole 11) (whole 1))) ≡ Some (Bounds 0) }
+    ensures range { first_stop (stops guarded d_first (both least (whole 0))) ≡
+        Some (Range 0 (plus (whole 5) minus_least)) }
+{}
+
+/// With a demand that stands first in the source the gap comes before it all the same; a demand
+/// that doesn't hold stops the step.
+pub fn demand_stops()
+    ensures holds { first_stop (stops demanding d_first (both (whole 5) (whole 1))) ≡ None }
+    ensures gap { first_stop (stops demanding d_first (both in_gap (whole 0))) ≡ Some (Gap 1) }
+    ensures demand { first_stop (stops demanding d_first (both at_tolerance (whole 0))) ≡ Some (Must 0) }
 {}

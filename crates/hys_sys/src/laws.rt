@@ -15,7 +15,9 @@ pub trait Stepping {
 /// A system that is exact for a relation of legal steps is exact for each relation with the same
 /// steps.
 pub fn exact_for_same_steps<A: Stepping, B: Stepping>()
-    ensures { ((x u : List Number) (w : Named) (next y : List Number) → A.legal x u w next y ↔ B.legal x u w next y) → (automaton : Automaton) (system : ASystem) → Exact automaton A.legal system → Exact automaton B.legal system }
+    ensures { ((x u : List Number) (w : Named) (next y : List Number) → A.legal x u w next y ↔
+        B.legal x u w next y) → (automaton : Automaton) (system : ASystem) → Exact automaton A.legal system →
+        Exact automaton B.legal system }
 {}
 
 /// A system without rows of a state and an input is exact for the automaton whose next state is

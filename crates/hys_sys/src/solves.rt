@@ -42,7 +42,8 @@ fn rows_hold(rows: &[Row], point: &Point) -> Result<bool, Lost>
 // Whether each Boolean column has 0 or 1.
 fn are_of_kinds(columns: &[Column], values: &[Frac]) -> bool
     requires { length values.now ≡ length columns.now }
-    ensures { IsTrue result ↔ ((i : ℕ) → i < length columns.now → HoldsAt (λ c. IsOfKind c.kind (at values.now i)) columns.now i) }
+    ensures { IsTrue result ↔ ((i : ℕ) → i < length columns.now →
+        HoldsAt (λ c. IsOfKind c.kind (at values.now i)) columns.now i) }
 {
     for i in 0..columns.len() {
         if columns[i].kind == Kind2::Bool && !is_bit(values[i]) {

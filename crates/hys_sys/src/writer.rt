@@ -1,5 +1,6 @@
 ghost use Rattle.std.specs.Prelude.{◌≡◌, map, IfOk};
 ghost use Rattle.serde_json.specs.View.{view};
+ghost use Rattle.serde_json.specs.Data.{Data};
 ghost use Rattle.hys_sys.specs.Matrix.{kind_word, role_word, column_data, term_data, next_data, output_data, row_data, matrix_data, matrix_text};
 
 use crate::system::{Column, ColumnRole, Kind2, Output, System};
@@ -27,115 +28,95 @@ fn role_word(role: ColumnRole) -> &'static str
     }
 }
 
-fn column_value(alloc: Global, column: &Column) -> Result<Value, AllocError>
-    ensures { IfOk result (λ v. view v ≡ column_data column.now) }
-{
-    let low = column.bounds.low.text(alloc)?;
-    let high = column.bounds.high.text(alloc)?;
-    let kind = kind_word(column.kind);
-    let role = role_word(column.role);
-    json!(in alloc; {
-        "box": [low.as_str(), high.as_str()],
-        "kind": kind,
-        "name": column.name.text(),
-        "role": role
-    })
+/// A part of a matrix text.
+trait Part {
+    /// The JSON value that the text shows it as.
+    ghost shown: { Self → Data };
+
+    fn value(&self, alloc: Global) -> Result<Value, AllocError>
+        ensures { IfOk result (λ v. view v ≡ shown self.now) };
 }
 
-fn column_values(alloc: Global, columns: &[Column]) -> Result<Vec<Value>, AllocError>
-    ensures { IfOk result (λ v. map view v.items ≡ map column_data columns.now) }
+// The values of parts in their order.
+fn values<P: Part>(alloc: Global, parts: &[P]) -> Result<Vec<Value>, AllocError>
+    ensures { IfOk result (λ v. map view v.items ≡ map P.shown parts.now) }
 {
     let mut values = Vec::new(alloc);
-    for column in columns {
-        values.push(column_value(alloc, column)?)?;
+    for part in parts {
+        values.push(part.value(alloc)?)?;
     }
     Ok(values)
 }
 
-fn term_value(alloc: Global, term: &Term) -> Result<Value, AllocError>
-    ensures { IfOk result (λ v. view v ≡ term_data term.now) }
-{
-    let factor = term.factor.text(alloc)?;
-    json!(in alloc; [term.column, factor.as_str()])
-}
+impl Part for Column {
+    ghost shown = { column_data };
 
-fn term_values(alloc: Global, terms: &[Term]) -> Result<Vec<Value>, AllocError>
-    ensures { IfOk result (λ v. map view v.items ≡ map term_data terms.now) }
-{
-    let mut values = Vec::new(alloc);
-    for term in terms {
-        values.push(term_value(alloc, term)?)?;
+    fn value(&self, alloc: Global) -> Result<Value, AllocError> {
+        let low = self.bounds.low.text(alloc)?;
+        let high = self.bounds.high.text(alloc)?;
+        let kind = kind_word(self.kind);
+        let role = role_word(self.role);
+        json!(in alloc; {
+            "box": [low.as_str(), high.as_str()],
+            "kind": kind,
+            "name": self.name.text(),
+            "role": role
+        })
     }
-    Ok(values)
 }
 
-fn next_value(alloc: Global, form: &Affine) -> Result<Value, AllocError>
-    ensures { IfOk result (λ v. view v ≡ next_data form.now) }
-{
-    let constant = form.constant.text(alloc)?;
-    let terms = term_values(alloc, form.terms.items())?;
-    json!(in alloc; {"constant": constant.as_str(), "terms": terms})
-}
+impl Part for Term {
+    ghost shown = { term_data };
 
-fn next_values(alloc: Global, forms: &[Affine]) -> Result<Vec<Value>, AllocError>
-    ensures { IfOk result (λ v. map view v.items ≡ map next_data forms.now) }
-{
-    let mut values = Vec::new(alloc);
-    for form in forms {
-        values.push(next_value(alloc, form)?)?;
+    fn value(&self, alloc: Global) -> Result<Value, AllocError> {
+        let factor = self.factor.text(alloc)?;
+        json!(in alloc; [self.column, factor.as_str()])
     }
-    Ok(values)
 }
 
-fn output_value(alloc: Global, output: &Output) -> Result<Value, AllocError>
-    ensures { IfOk result (λ v. view v ≡ output_data output.now) }
-{
-    let constant = output.form.constant.text(alloc)?;
-    let kind = kind_word(output.kind);
-    let terms = term_values(alloc, output.form.terms.items())?;
-    json!(in alloc; {
-        "constant": constant.as_str(),
-        "kind": kind,
-        "name": output.name.text(),
-        "terms": terms
-    })
-}
+impl Part for Affine {
+    ghost shown = { next_data };
 
-fn output_values(alloc: Global, outputs: &[Output]) -> Result<Vec<Value>, AllocError>
-    ensures { IfOk result (λ v. map view v.items ≡ map output_data outputs.now) }
-{
-    let mut values = Vec::new(alloc);
-    for output in outputs {
-        values.push(output_value(alloc, output)?)?;
+    fn value(&self, alloc: Global) -> Result<Value, AllocError> {
+        let constant = self.constant.text(alloc)?;
+        let terms = values(alloc, self.terms.items())?;
+        json!(in alloc; {"constant": constant.as_str(), "terms": terms})
     }
-    Ok(values)
 }
 
-fn row_value(alloc: Global, row: &Row) -> Result<Value, AllocError>
-    ensures { IfOk result (λ v. view v ≡ row_data row.now) }
-{
-    let bound = row.bound.text(alloc)?;
-    let terms = term_values(alloc, row.terms.items())?;
-    json!(in alloc; {"bound": bound.as_str(), "terms": terms})
-}
+impl Part for Output {
+    ghost shown = { output_data };
 
-fn row_values(alloc: Global, rows: &[Row]) -> Result<Vec<Value>, AllocError>
-    ensures { IfOk result (λ v. map view v.items ≡ map row_data rows.now) }
-{
-    let mut values = Vec::new(alloc);
-    for row in rows {
-        values.push(row_value(alloc, row)?)?;
+    fn value(&self, alloc: Global) -> Result<Value, AllocError> {
+        let constant = self.form.constant.text(alloc)?;
+        let kind = kind_word(self.kind);
+        let terms = values(alloc, self.form.terms.items())?;
+        json!(in alloc; {
+            "constant": constant.as_str(),
+            "kind": kind,
+            "name": self.name.text(),
+            "terms": terms
+        })
     }
-    Ok(values)
+}
+
+impl Part for Row {
+    ghost shown = { row_data };
+
+    fn value(&self, alloc: Global) -> Result<Value, AllocError> {
+        let bound = self.bound.text(alloc)?;
+        let terms = values(alloc, self.terms.items())?;
+        json!(in alloc; {"bound": bound.as_str(), "terms": terms})
+    }
 }
 
 fn system_value(alloc: Global, system: &System) -> Result<Value, AllocError>
     ensures { IfOk result (λ v. view v ≡ matrix_data system.now) }
 {
-    let columns = column_values(alloc, system.columns.items())?;
-    let next = next_values(alloc, system.next.items())?;
-    let outputs = output_values(alloc, system.outputs.items())?;
-    let rows = row_values(alloc, system.rows.items())?;
+    let columns = values(alloc, system.columns.items())?;
+    let next = values(alloc, system.next.items())?;
+    let outputs = values(alloc, system.outputs.items())?;
+    let rows = values(alloc, system.rows.items())?;
     json!(in alloc; {
         "columns": columns,
         "format": "hysdel-mld",

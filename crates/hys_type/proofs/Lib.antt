@@ -6,3 +6,15 @@ pub mod Numbers
 pub mod Knowing
 pub mod Ends
 pub mod Zips
+pub mod KnownValues
+pub mod Agree
+pub mod FormSums
+pub mod FormPlaces
+pub mod FormulaTruths
+pub mod SameBodies
+pub mod SameSteps
+pub mod ProgramNames
+pub mod ProgramForms
+pub mod ProgramBodies
+pub mod ProgramWeight
+pub mod ProgramItems

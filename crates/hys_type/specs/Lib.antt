@@ -8,3 +8,6 @@ pub mod Checks
 pub mod Dense
 pub mod Examples
 pub mod Translation
+pub mod Views
+pub mod Declaring
+pub mod SameMeaning

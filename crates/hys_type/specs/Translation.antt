@@ -1,6 +1,6 @@
 -- The program that a source is translated to: its names in their order, and for each item one with the same meaning,
 -- in which real expressions are affine forms and Boolean parameters are constants.
-use Rattle.std.specs.Prelude.{◌≡◌, ℕ, suc, List, [], ◌∷◌, Option, Some, None, Bool, true, false, cond, IsTrue, length}
+use Rattle.std.specs.Prelude.{◌≡◌, ℕ, suc, List, [], ◌∷◌, Option, Some, None, true, false, cond, IsTrue, length}
 use Rattle.std.specs.Str.{bytes_eq}
 use Rattle.hys_number.specs.Number.{Number}
 use Rattle.hys_number.specs.Ops.{whole}

@@ -1,12 +1,27 @@
 //! What holds of the definitions, as calls that do nothing.
 
-ghost use Rattle.std.specs.Prelude.{◌≡◌, List, [], ◌∷◌, Some, None, true, codes};
-ghost use Rattle.hys_meaning.specs.Names.{Name};
+ghost use Rattle.std.specs.Prelude.{◌≡◌, ◌<◌, ℕ, List, [], ◌∷◌, Some, None, true, codes, length};
+ghost use Rattle.std.specs.List.{AllByRecursion};
+ghost use Rattle.hys_number.specs.Ops.{◌<ₙ◌, whole};
+ghost use Rattle.hys_meaning.specs.Accepted.{KeepsRules};
+ghost use Rattle.hys_prog.specs.Programs.{IsProgram};
+ghost use Rattle.hys_type.specs.Declaring.{IsDeclaration};
 ghost use Rattle.hys_meaning.specs.Forms.{Form};
 ghost use Rattle.hys_meaning.specs.Folding.{each, matched};
 ghost use Rattle.hys_lin.specs.declared.lost.Op.{Op};
 ghost use Rattle.hys_ast.specs.Tree as tree;
 ghost use Rattle.hys_ast.specs.declared.tree.BinaryOp.TheVariants as binary;
+ghost use Rattle.hys_number.specs.Number.{Number};
+ghost use Rattle.hys_lin.specs.Sums.{Assignment as PlaceAssignment};
+ghost use Rattle.hys_ast.specs.Tree.{Source};
+ghost use Rattle.hys_meaning.specs.Values.{Assignment};
+ghost use Rattle.hys_meaning.specs.Names.{Name, names, look};
+ghost use Rattle.hys_meaning.specs.Typed.{DeclaredOnce};
+ghost use Rattle.hys_meaning.specs.Unfolded.{unfolded};
+ghost use Rattle.hys_prog.specs.declared.program.Program.{Program};
+ghost use Rattle.hys_type.specs.Translation.{IsTranslation};
+ghost use Rattle.hys_type.specs.Views.{by_places, by_texts};
+ghost use Rattle.hys_type.specs.SameMeaning.{Translates, StepsByPlaces, StepsByTexts, LegalByPlaces, LegalByTexts};
 ghost use Rattle.hys_type.specs.Checks.{fault_of};
 ghost use Rattle.hys_type.specs.Examples.{spot, name, zero_at, ten_at, state, output, next, source, stepping};
 ghost use Rattle.hys_type.specs.declared.fault.TypeFault.TheVariants as fault;
@@ -34,4 +49,23 @@ pub fn first_faults()
     ensures not_constant { fault_of (source (state (name (codes "x") 2) (ten_at 3) ∷ []) []) ≡ Some (fault.Kind (spot 2)) }
     ensures an_output { fault_of (source (state (zero_at 2) (ten_at 3) ∷ output ∷ []) (next (name (codes "y") 6) ∷ [])) ≡ Some (fault.Kind (spot 6)) }
     ensures defined_twice { fault_of (source (state (zero_at 2) (ten_at 3) ∷ []) (next (zero_at 6) ∷ next (zero_at 7) ∷ [])) ≡ Some (fault.DefinedTwice (spot 5)) }
+{}
+
+/// A program that is the translation of a source has its meaning: its steps and its legal steps are
+/// those of the source, where an assignment gives a number to each declared name, in the source by
+/// its text and in the program by its place. Going from one to the other and back keeps the number
+/// of each declared name.
+pub fn same_meaning()
+    ensures texts_again { (s : Source) (w : Assignment) (n : List ℕ) (m : Name) → look (names s) n ≡ Some m → by_texts (names s) (by_places (names s) w) n ≡ w n }
+    ensures places_again { (s : Source) (v : PlaceAssignment) (k : ℕ) → DeclaredOnce s → k < length (names s) → by_places (names s) (by_texts (names s) v) k ≡ v k }
+    ensures steps_by_places { (tolerance : Number) (s : Source) (p : Program) → Translates tolerance s p → StepsByPlaces (unfolded s) p }
+    ensures steps_by_texts { (tolerance : Number) (s : Source) (p : Program) → Translates tolerance s p → StepsByTexts (unfolded s) p }
+    ensures legal_by_places { (tolerance : Number) (s : Source) (p : Program) → Translates tolerance s p → LegalByPlaces tolerance (unfolded s) p }
+    ensures legal_by_texts { (tolerance : Number) (s : Source) (p : Program) → Translates tolerance s p → LegalByTexts tolerance (unfolded s) p }
+{}
+
+/// The translation of a source that keeps the rules is a program, where the declarations of the
+/// source are as they are read from a text and the tolerance is above 0.
+pub fn translations_are_programs()
+    ensures { (tolerance : Number) (s : Source) (p : Program) → IsTranslation tolerance s p → KeepsRules (unfolded s) → AllByRecursion IsDeclaration s.decls → whole 0 <ₙ tolerance → IsProgram p }
 {}

@@ -14,7 +14,7 @@ returns-then-byte_at-ne46-clause-parts c =
     let e = c.with_exponent.ensures in
     let point = ne_eqb _ 46 (λ x. c.if-byte_at-ne46.true (c.byte_at.ensures ∙ x)) in
     rw (← c.digits_end-whole_end.ensures.end, point, sub-zero)
-    (λ i. record { whole = e.kept.0 i; point = e.kept.1 i; fraction = e.kept.2 i; exponent_negative = e.sign i; exponent = e.exponent i; len = e.len i })
+    (λ i. record { whole = e.whole i; point = e.point i; fraction = e.fraction i; exponent_negative = e.sign i; exponent = e.exponent i; len = e.len i })
 
 pub with_exponent-requires-2-clause-digits : goal.with_exponent-requires-2-clause-digits
 with_exponent-requires-2-clause-digits c = (
@@ -28,4 +28,4 @@ returns-clause-parts c =
     let e = c.with_exponent-2.ensures in
     let point = eq-eqb _ 46 (sym c.byte_at.ensures ∙ c.if-byte_at-ne46.false) in
     rw (← c.digits_end-whole_end.ensures.end, point, ← c.digits_end-end.ensures.end, sub-zero)
-    (λ i. record { whole = e.kept.0 i; point = e.kept.1 i; fraction = e.kept.2 i; exponent_negative = e.sign i; exponent = e.exponent i; len = e.len i })
+    (λ i. record { whole = e.whole i; point = e.point i; fraction = e.fraction i; exponent_negative = e.sign i; exponent = e.exponent i; len = e.len i })

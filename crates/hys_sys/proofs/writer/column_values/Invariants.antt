@@ -1,7 +1,0 @@
-use Rattle.std.proofs.Common.{◌≡◌, map, take}
-use Rattle.serde_json.specs.View.{view}
-use Rattle.hys_sys.specs.Matrix.{column_data}
-use Rattle.hys_sys.proofs.writer.column_values.Given as goal
-
-abbrev pub invariant-loop-column : goal.invariant-loop-column
-invariant-loop-column l = map view l.values.items ≡ map column_data (take l.column-index l.columns)

@@ -1,0 +1,39 @@
+-- That a source and a program have the same steps.
+use Rattle.std.specs.Prelude.{List, ◌↔◌}
+use Rattle.hys_number.specs.Number.{Number}
+use Rattle.hys_lin.specs.Sums.{Assignment as PlaceAssignment}
+use Rattle.hys_ast.specs.Tree.{Source}
+use Rattle.hys_meaning.specs.Values.{Assignment}
+use Rattle.hys_meaning.specs.Names.{names}
+use Rattle.hys_meaning.specs.Typed.{DeclaredOnce, Typed}
+use Rattle.hys_meaning.specs.Unfolded.{unfolded}
+use Rattle.hys_meaning.specs.Steps as source
+use Rattle.hys_prog.specs.declared.program.Program.{Program}
+use Rattle.hys_prog.specs.Steps as program
+use Rattle.hys_type.specs.Translation.{IsTranslation}
+use Rattle.hys_type.specs.Views.{by_places, by_texts}
+
+-- the program is the translation of a typed source in which no name is declared twice
+pub record Translates (tolerance : Number) (s : Source) (p : Program) : Type 0 where
+  pub translation : IsTranslation tolerance s p
+  pub once : DeclaredOnce (unfolded s)
+  pub typed : Typed (unfolded s)
+
+-- the steps of the source are those of the program with the numbers by places
+abbrev pub StepsByPlaces : Source → Program → Type 0
+StepsByPlaces s p = (x u : List Number) (w : Assignment) (x' y : List Number) →
+    source.Step s x u w x' y ↔ program.Step p x u (by_places (names s) w) x' y
+
+-- the steps of the program are those of the source with the numbers by texts
+abbrev pub StepsByTexts : Source → Program → Type 0
+StepsByTexts s p = (x u : List Number) (v : PlaceAssignment) (x' y : List Number) →
+    program.Step p x u v x' y ↔ source.Step s x u (by_texts (names s) v) x' y
+
+-- the same for legal steps
+abbrev pub LegalByPlaces : Number → Source → Program → Type 0
+LegalByPlaces tolerance s p = (x u : List Number) (w : Assignment) (x' y : List Number) →
+    source.Legal tolerance s x u w x' y ↔ program.Legal p x u (by_places (names s) w) x' y
+
+abbrev pub LegalByTexts : Number → Source → Program → Type 0
+LegalByTexts tolerance s p = (x u : List Number) (v : PlaceAssignment) (x' y : List Number) →
+    program.Legal p x u v x' y ↔ source.Legal tolerance s x u (by_texts (names s) v) x' y
