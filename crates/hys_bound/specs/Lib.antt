@@ -1,3 +1,4 @@
 pub mod Ranges
 pub mod Answers
 pub mod Values
+pub mod Example

@@ -52,7 +52,8 @@ fn next_ready(
     requires links { AreLinks links.now }
     requires length { length cursors.old.items ≡ length links.now }
     requires cursors { AreCursors taken.now links.now cursors.old.items }
-    ensures first { MatchOption result (IsStuck links.now names.now taken.now) (IsFirstReady links.now names.now taken.now) }
+    ensures first { MatchOption result (IsStuck links.now names.now taken.now)
+        (IsFirstReady links.now names.now taken.now) }
     ensures length { length cursors.new.items ≡ length links.now }
     ensures cursors { AreCursors taken.now links.now cursors.new.items }
 {

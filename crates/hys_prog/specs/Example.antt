@@ -39,7 +39,10 @@ real_name text role high = record {
 
 -- a term and a constant
 abbrev pub one_term : ℕ → Number → Number → Affine
-one_term column factor constant = record { terms = record { column = column; factor = factor } ∷ []; constant = constant }
+one_term column factor constant = record {
+  terms = record { column = column; factor = factor } ∷ [];
+  constant = constant;
+}
 
 -- the item that defines the name
 abbrev pub item_of : ℕ → Body → ProgItem

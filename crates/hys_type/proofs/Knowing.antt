@@ -1,9 +1,8 @@
 -- The names that constant expressions know, one declaration after the other.
 use Rattle.std.proofs.Common.{◌||◌, Bool, ◌≡◌, ℕ, ◌+◌, ◌<◌, ◌≤◌, List, [], ◌∷◌, ◌++◌, true, false, map, take, drop, length, get_or, refl, sym, ◌∙◌, ap, subst, zero, suc, append_assoc, Some, None}
-use Rattle.std.proofs.lemmas.List.{drop_all, append-nil, map_push}
+use Rattle.std.proofs.lemmas.List.{drop_all, append-nil}
 use Rattle.std.proofs.Math.Seq.{drop-nil}
 use Rattle.std.specs.List.{AllByRecursion, list_any}
-use Rattle.hys_lin.specs.declared.form.Interval.{Interval}
 use Rattle.hys_ast.specs.Tree as tree
 use Rattle.hys_ast.specs.declared.source.Decl.{Decl}
 use Rattle.hys_ast.specs.declared.source.Item.{Item}
@@ -13,7 +12,7 @@ use Rattle.hys_type.specs.Checks.{missing_checks}
 use Rattle.hys_type.specs.Faults.{first_fault}
 use Rattle.hys_type.specs.declared.fault.TypeFault.TheVariants as fault
 use Rattle.hys_meaning.specs.Names.{is_parameter}
-use Rattle.hys_type.specs.Declarations.{other, others, with_parameter, with_parameters, known, box_of}
+use Rattle.hys_type.specs.Declarations.{other, others, with_parameter, with_parameters, known}
 use Rattle.hys_type.specs.declared.constant.Known.{Known}
 use Rattle.hys_type.proofs.Walks.{drop_here, longer}
 
@@ -49,14 +48,8 @@ dropped P (x ∷ xs) (suc n) w = dropped P xs n w.1
 pub each_has : (P : tree.Decl → Type 0) (ds : List Decl) (i : ℕ) (d : Decl) → i < length ds → d ≡ get_or ds i d → AllByRecursion P (map decl_of ds) → P (decl_of d)
 each_has P ds i d h e w = (subst (λ zs. AllByRecursion P (map decl_of zs)) (drop_here ds i d h e) (dropped P ds i w)).0
 
--- ---- boxes
-pub one_box : (ks : List Known) (vs ws : List Interval) (ds : List Decl) (i : ℕ) (d : Decl) (b : Interval) → i < length ds → d ≡ get_or ds i d → vs ≡ map (box_of ks) (map decl_of (take i ds)) → b ≡ box_of ks (decl_of d) →
-    ws ≡ vs ++ b ∷ [] → ws ≡ map (box_of ks) (map decl_of (take (i + 1) ds))
-one_box ks vs ws ds i d b h e v o w =
-    w ∙ ap (λ xs. xs ++ b ∷ []) v ∙ ap (λ x. map (box_of ks) (map decl_of (take i ds)) ++ x ∷ []) o ∙ sym (map_push (box_of ks) (map decl_of (take i ds)) (decl_of d)) ∙ ap (map (box_of ks)) (sym (longer decl_of ds i d h e))
-
 -- ---- items that define a name
-any_item : (n : List ℕ) (is : List Item) → list_any (λ i. defines n i.name) (map item_of is) ≡ list_any (λ i. defines n i.name) is
+pub any_item : (n : List ℕ) (is : List Item) → list_any (λ i. defines n i.name) (map item_of is) ≡ list_any (λ i. defines n i.name) is
 any_item n [] = refl
 any_item n (i ∷ is) = ap (λ (b : Bool). defines n i.name || b) (any_item n is)
 

@@ -14,6 +14,10 @@ pub mod Numbers
 pub mod Knowing
 pub mod Ends
 pub mod Zips
+pub mod Operands
+pub mod Operators
+pub mod Rights
+pub mod Items
 pub mod KnownValues
 pub mod Agree
 pub mod FormSums
@@ -29,3 +33,7 @@ pub mod ProgramItems
 pub mod SmallTranslation
 pub mod Mentions
 pub mod SameCircles
+pub mod Unboxed
+pub mod Wholes
+pub mod SparseForms
+pub mod Guards

@@ -1,7 +1,7 @@
 -- The checks of a source, in the order in which a fault counts: the fault of a source is that of the first check
 -- that fails. It says what is checked, never how.
-use Rattle.std.specs.Prelude.{ℕ, List, [], ◌∷◌, ◌++◌, Option, Some, None, Bool, true, false, not, cond}
-use Rattle.std.specs.List.{list_any}
+use Rattle.std.specs.Prelude.{ℕ, List, [], ◌∷◌, ◌++◌, Option, Some, None, Bool, true, false, not, cond, map}
+use Rattle.std.specs.List.{list_any, AllByRecursion}
 use Rattle.std.specs.declared.cmp.Ordering.{Ordering}
 use Rattle.std.specs.declared.cmp.Ordering.TheVariants.{Less, Equal, Greater}
 use Rattle.hys_number.specs.Ops.{whole}
@@ -10,19 +10,19 @@ use Rattle.hys_ast.specs.declared.place.Place.{Place}
 use Rattle.hys_ast.specs.declared.tree.BinaryOp.{BinaryOp}
 use Rattle.hys_ast.specs.declared.source.Kind.{Kind}
 use Rattle.hys_ast.specs.declared.source.Kind.TheVariants as kind
-use Rattle.hys_ast.specs.Tree.{Tree, Decl, Item, Source}
+use Rattle.hys_ast.specs.Tree.{Tree, Decl, Shape, Item, Source}
 use Rattle.hys_ast.specs.Tree as tree
 use Rattle.hys_meaning.specs.Values.{value}
-use Rattle.hys_meaning.specs.Names.{Name, names, look}
+use Rattle.hys_meaning.specs.Names.{Name, name_of, parameters, look}
 use Rattle.hys_meaning.specs.Bodies.{Body, body}
 use Rattle.hys_meaning.specs.Bodies as body
 use Rattle.hys_meaning.specs.Unfolded.{is_inequality}
 use Rattle.hys_meaning.specs.Typed.{is_comparison, suits, defines, is_defined}
 use Rattle.hys_type.specs.Sorts.{is_bool}
-use Rattle.hys_type.specs.Constants.{known_values}
+use Rattle.hys_type.specs.Constants.{known_values, HasLiterals}
 use Rattle.hys_type.specs.Nodes.{is_declared, sort, node_checks}
 use Rattle.hys_type.specs.Walks.{walk}
-use Rattle.hys_type.specs.Declarations.{name_checks, place_of, is_of_kind, constant_of_kind, if_some, known, value_checks, box_checks}
+use Rattle.hys_type.specs.Declarations.{name_checks, place_of, is_of_kind, constant_of_kind, if_some, known, value_checks, box_checks, HaveLiterals, HasValueLiterals, HasBoundLiterals}
 use Rattle.hys_type.specs.Faults.{Check, check, first_fault}
 use Rattle.hys_type.specs.declared.constant.Known.{Known}
 use Rattle.hys_type.specs.declared.fault.TypeFault.{TypeFault}
@@ -33,6 +33,9 @@ use Rattle.hys_type.specs.declared.fault.TypeFault.TheVariants as fault
 pub record Scope : Type 0 where
   pub names : List Name
   pub known : List Known
+
+abbrev pub scoped : List Name → List Known → Scope
+scoped ns ks = record { names = ns; known = ks }
 
 -- the left name is declared, suits the section, and no item before defines it
 abbrev pub left_checks : List Name → List Item → Item → List ℕ → List Check
@@ -70,6 +73,10 @@ abbrev pub output_checks : List Name → Option Name → Tree → List Check
 output_checks ns (Some n) e = of_kind n.kind ns e
 output_checks ns None e = []
 
+-- a comparison or a formula may be demanded
+abbrev pub demanded : List Name → Tree → Bool
+demanded ns e = cond (has_top is_comparison e) true (is_bool (sort ns e))
+
 abbrev pub left_name : List Name → Option (List ℕ) → Option Name
 left_name ns (Some n) = look ns n
 left_name ns None = None
@@ -83,7 +90,7 @@ right_checks c n p (body.Linear e) = of_kind kind.Real c.names e
 right_checks c n p (body.NextBool e) = of_kind kind.Bool c.names e
 right_checks c n p (body.NextReal e) = of_kind kind.Real c.names e
 right_checks c n p (body.Output e) = output_checks c.names n e
-right_checks c n p (body.Must e) = expression c.names (λ e. cond (has_top is_comparison e) true (is_bool (sort c.names e))) e
+right_checks c n p (body.Must e) = expression c.names (demanded c.names) e
 right_checks c n p body.Nothing = []
 
 abbrev pub item_checks : Scope → List Item → Item → List Check
@@ -94,8 +101,12 @@ abbrev pub missing_checks : List Item → Decl → List Check
 missing_checks is d = cond (is_defined d.section) (check (list_any (λ i. defines d.name i.name) is) (fault.Missing d.name) ∷ []) []
 
 -- ---- the whole
+-- what items may name behind these declarations
+abbrev pub scope_by : List Decl → Scope
+scope_by ds = record { names = map (name_of (parameters ds)) ds; known = known ds ds }
+
 abbrev pub scope : Source → Scope
-scope s = record { names = names s; known = known s.decls s.decls }
+scope s = scope_by s.decls
 
 -- Declarations; values of parameters; boxes; items; names that no item defines: each in the order of the source.
 abbrev pub checks : Source → List Check
@@ -109,3 +120,22 @@ checks s =
 -- the fault of a source, where it has one
 abbrev pub fault_of : Source → Option TypeFault
 fault_of s = first_fault (checks s)
+
+-- ---- literals
+abbrev pub HaveShapeLiterals : Shape → Type 0
+HaveShapeLiterals (tree.Plain e) = HasLiterals e
+HaveShapeLiterals (tree.Wide e t) = HasLiterals e × HasLiterals t
+HaveShapeLiterals (tree.Choice a b o) = HasLiterals a × (HasLiterals b × HaveLiterals o)
+
+abbrev pub HasItemLiterals : Item → Type 0
+HasItemLiterals i = HaveShapeLiterals i.shape
+
+-- each literal of the source is read as what it is
+pub record HasSourceLiterals (s : Source) : Type 0 where
+  pub values : AllByRecursion HasValueLiterals s.decls
+  pub bounds : AllByRecursion HasBoundLiterals s.decls
+  pub items : AllByRecursion HasItemLiterals s.items
+
+-- the checks of declarations and items; the name of the system has none
+abbrev pub checks_by : List Decl → List Item → List Check
+checks_by ds is = checks (record { system = []; decls = ds; items = is })

@@ -6,9 +6,12 @@ pub mod Walks
 pub mod Declarations
 pub mod Checks
 pub mod Dense
+pub mod Operands
 pub mod Examples
 pub mod Translation
 pub mod Views
 pub mod Declaring
 pub mod SameMeaning
 pub mod SmallProgram
+pub mod Made
+pub mod Built

@@ -1,14 +1,12 @@
 //! The boxes of states and inputs.
 
-ghost use Rattle.std.specs.Prelude.{◌≡◌, [], ◌∷◌, ◌++◌, Some, map, IfOk};
+ghost use Rattle.std.specs.Prelude.{◌≡◌, [], ◌∷◌, ◌++◌, Some, IfOk};
 ghost use Rattle.std.specs.Result.{result_err};
-ghost use Rattle.std.specs.List.{AllByRecursion};
 ghost use Rattle.hys_ast.specs.Seen.{tree_of, decl_of};
 ghost use Rattle.hys_ast.specs.declared.source.Kind.TheVariants as kind;
 ghost use Rattle.hys_meaning.specs.Values.{value};
 ghost use Rattle.hys_meaning.specs.Typed.{has_box};
-ghost use Rattle.hys_type.specs.Faults.{first_fault, check, Answers};
-ghost use Rattle.hys_type.specs.Walks.{walk};
+ghost use Rattle.hys_type.specs.Faults.{first_fault, check};
 ghost use Rattle.hys_type.specs.Constants.{known_values, HasLiterals};
 ghost use Rattle.hys_type.specs.Declarations.{constant_of_kind, ends_checks, bounds_checks, box_checks, box_of, usual_box, HasBoundLiterals};
 
@@ -18,7 +16,6 @@ use crate::kinds::evaluate_as;
 use hys_ast::{Decl, Expr, Kind, Place, Section};
 use hys_frac::Frac;
 use hys_lin::Interval;
-use std::alloc::Global;
 use std::cmp::Ordering;
 
 // The interval from the low end to the high one, which isn't below it.
@@ -63,8 +60,9 @@ fn usual_box(kind: Kind) -> Interval
     }
 }
 
-// The box of a declared name, or the fault of its bounds.
-fn box_of(known: &[Known], decl: &Decl) -> Result<Interval, TypeFault>
+/// The box of a declared name, or the fault of its bounds. That of a Boolean name is 0 to 1, and 0 to
+/// 0 stands for a real name that is no state and no input.
+pub fn box_of(known: &[Known], decl: &Decl) -> Result<Interval, TypeFault>
     requires { HasBoundLiterals (decl_of decl.now) }
     ensures fault { result_err result ≡ first_fault (box_checks known.now (decl_of decl.now)) }
     ensures ends { IfOk result (λ i. i ≡ box_of known.now (decl_of decl.now)) }
@@ -79,18 +77,4 @@ fn box_of(known: &[Known], decl: &Decl) -> Result<Interval, TypeFault>
             Some(high) => between(known, low, high, decl.place),
         },
     }
-}
-
-/// The boxes of all declared names, or the fault of the first that has one. That of a Boolean name
-/// is 0 to 1, and 0 to 0 stands for a real name that is no state and no input.
-pub fn boxes(alloc: Global, known: &[Known], decls: &[Decl]) -> Result<Vec<Interval>, TypeFault>
-    requires { AllByRecursion HasBoundLiterals (map decl_of decls.now) }
-    ensures fault { Answers result (walk (λ before d. box_checks known.now d) [] (map decl_of decls.now)) }
-    ensures boxes { IfOk result (λ v. v.items ≡ map (box_of known.now) (map decl_of decls.now)) }
-{
-    let mut boxes = Vec::new(alloc);
-    for decl in decls {
-        boxes.push(box_of(known, decl)?)?;
-    }
-    Ok(boxes)
 }

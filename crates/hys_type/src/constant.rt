@@ -73,7 +73,8 @@ fn literal(digits: &Text, place: Place) -> Result<Constant, TypeFault>
 }
 
 #[tactic(auto, using(crate::proofs::Constants::found_here, crate::proofs::Constants::found_behind))]
-fn find<'a>(known: &'a [Known], name: &Text) -> Option<&'a Known>
+/// The known name with a text.
+pub fn find<'a>(known: &'a [Known], name: &Text) -> Option<&'a Known>
     ensures { MatchOption result (find_known known.now name.now ≡ None) (λ k. find_known known.now name.now ≡ Some k.now) }
 {
     match known.split_first() {

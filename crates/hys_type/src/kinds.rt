@@ -15,7 +15,7 @@ use crate::fault::TypeFault;
 use hys_ast::{Expr, Kind, Place};
 use hys_frac::Frac;
 
-fn place_of(whole: &Expr) -> Place
+pub fn place_of(whole: &Expr) -> Place
     ensures { result ≡ place_of (tree_of whole.now) }
 {
     match whole {

@@ -2,20 +2,32 @@
 #![tactic(auto)]
 
 mod bounds;
+mod built;
 mod constant;
 mod declared;
 mod dense;
 mod fault;
+mod item;
+mod judge;
 mod kinds;
 pub mod laws;
 mod missing;
+mod names;
+mod node;
 mod parameters;
+mod right;
+mod scope;
 
-pub use bounds::boxes;
+pub use built::{Guard, affine, difference, guard_number, sparse};
 pub use constant::{Constant, Known, evaluate};
 pub use declared::check_names;
 pub use dense::{Dense, fold, is_constant, spread};
 pub use fault::TypeFault;
+pub use item::check_items;
+pub use judge::{Judged, judge_parts};
 pub use kinds::evaluate_as;
 pub use missing::check_all_defined;
+pub use names::{declared_names, scope_of};
+pub use node::{Node, folded};
 pub use parameters::known_names;
+pub use scope::{Declared, look};

@@ -21,7 +21,7 @@ fn defines(item: &Item, name: &Text) -> bool
     }
 }
 
-fn is_among(name: &Text, items: &[Item]) -> bool
+pub fn is_among(name: &Text, items: &[Item]) -> bool
     ensures { result ≡ list_any (λ i. defines name.now i.name) items.now }
 {
     items.iter().any(|i| defines(i, name))

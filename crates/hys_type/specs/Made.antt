@@ -1,0 +1,15 @@
+-- What is made of each declaration: its name for items, and its name in the program.
+use Rattle.hys_ast.specs.Tree.{Decl}
+use Rattle.hys_prog.specs.declared.program.Name.{Name as ProgName}
+use Rattle.hys_type.specs.Constants.{known_values}
+use Rattle.hys_type.specs.Declarations.{box_of}
+use Rattle.hys_type.specs.Translation.{role_in}
+use Rattle.hys_type.specs.declared.constant.Known.{Known}
+use Rattle.hys_type.specs.declared.scope.Declared.{Declared}
+use Rattle.std.specs.Prelude.{List}
+
+abbrev pub declared : List Known → Decl → Declared
+declared ks d = record { text = d.name; section = d.section; kind = d.kind; value = known_values ks d.name }
+
+abbrev pub program_name : List Known → Decl → ProgName
+program_name ks d = record { text = d.name; role = role_in d.section; kind = d.kind; place = d.place; bounds = box_of ks d; value = known_values ks d.name }
