@@ -22,12 +22,13 @@ use Rattle.hys_prog.specs.Programs.{NameAt, EachItem, BodyOver, Named, Suits, Is
 use Rattle.hys_prog.specs.Programs as program
 use Rattle.hys_type.specs.Translation.{place_in, place_if, role_in, IsNameOf, OneByOne, Setting, setting, IsBodyOf, IsItemOf, IsNamedTranslation, IsTranslation, left_kind, kind_of}
 use Rattle.hys_type.specs.Declaring.{declares, IsDeclaration}
+use Rattle.hys_prog.proofs.Names.{name_map}
 use Rattle.hys_type.proofs.KnownValues.{same_text, own_text, declared_texts, differ_texts}
 use Rattle.hys_type.proofs.Agree.{Placed, placed}
 use Rattle.hys_type.proofs.FormPlaces.{same_column, own_column}
 use Rattle.hys_type.proofs.SameSteps.{left_declared, names_differ, own_values}
 use Rattle.hys_type.proofs.ProgramNames.{Ruled, all_ruled, parameter_bits, roles_kept, names_spelled, texts_differ, columns_weigh}
-use Rattle.hys_type.proofs.ProgramForms.{Stands, stands_at, at_name, look_own}
+use Rattle.hys_type.proofs.ProgramForms.{Stands, stands_at, look_own}
 use Rattle.hys_type.proofs.ProgramBodies.{body_over, must_is, item_suits}
 use Rattle.hys_type.proofs.ProgramWeight.{left_kind_is, items_weigh}
 
@@ -47,7 +48,7 @@ named_item c u ds xs e h i t q r = go i.name t.name q.name r.0 r.1 q.body
   where
     at_left : (n : List ℕ) (o : Option Name) → look c.names n ≡ o → IsTrue (suits i.section o) → RightTyped c.names o (body i) → IsBodyOf c (kind_of o) (body i) t.body → NameAt xs (place_in c.names n) (Suits t.body)
     at_left n None f l r b = absurd (left_declared i.section l)
-    at_left n (Some m) f l r b = at_name (Stands m) (Suits t.body) (λ x s. item_suits c (Some m) m x i.section i.shape t.body s l r b) xs (place_in c.names n)
+    at_left n (Some m) f l r b = name_map (Stands m) (Suits t.body) xs (place_in c.names n) (λ x s. item_suits c (Some m) m x i.section i.shape t.body s l r b)
         (subst (λ ns. NameAt xs (place_in ns n) (Stands m)) (sym e) (stands_at u ds xs h n m (ap (λ ns. look ns n) (sym e) ∙ f)))
 
     go : (o : Option (List ℕ)) (p : Option ℕ) → p ≡ place_if c.names o → LeftTyped i.section c.names o → RightTyped c.names (left c.names o) (body i) → IsBodyOf c (left_kind c.names o) (body i) t.body → Named xs p t.body
@@ -160,7 +161,7 @@ named_program tolerance s p h once values typed bounded defined spelled positive
         ∙ f.ruled.1 (defined_role f.decl.section f.ruled.0 (ap program.is_defined (sym f.is.role) ∙ f.has))
 
 -- ---- unnamed guards
-all_append : (P : Decl → Type 0) (xs ys : List Decl) → AllByRecursion P xs → AllByRecursion P ys → AllByRecursion P (xs ++ ys)
+pub all_append : (P : Decl → Type 0) (xs ys : List Decl) → AllByRecursion P xs → AllByRecursion P ys → AllByRecursion P (xs ++ ys)
 all_append P [] ys h k = k
 all_append P (x ∷ xs) ys h k = (h.0, all_append P xs ys h.1 k)
 

@@ -1,5 +1,5 @@
 -- The circular lists of a translation are those of its source.
-use Rattle.std.proofs.Common.{◌≡◌, ℕ, zero, suc, ◌+◌, List, [], ◌∷◌, ◌++◌, Option, Some, None, Bool, true, false, ◌||◌, ◌&&◌, not, ◌⊎◌, inl, inr, ◌↔◌, map, cond, eqb, refl, sym, ◌∙◌, ap, ap₂, subst, arith}
+use Rattle.std.proofs.Common.{◌≡◌, ℕ, List, [], ◌∷◌, Option, Some, None, Bool, true, false, ◌||◌, ◌&&◌, not, ◌⊎◌, inl, inr, ◌↔◌, map, refl, sym, ◌∙◌, ap, ap₂, subst, arith}
 use Rattle.std.specs.Prelude.{IsTrue}
 use Rattle.std.specs.Str.{bytes_eq}
 use Rattle.std.specs.List.{AllByRecursion, list_any}
@@ -14,23 +14,22 @@ use Rattle.hys_meaning.specs.Typed.{differ, DeclaredOnce, Typed, ItemTyped, left
 use Rattle.hys_meaning.specs.Unfolded.{Guard, guards, guard_decl, unfolded}
 use Rattle.hys_meaning.specs.Circular.{IsAuxiliary}
 use Rattle.hys_meaning.specs.Circular as source
-use Rattle.hys_prog.specs.declared.program.Role.{Role}
-use Rattle.hys_prog.specs.declared.program.Name.{Name as ProgName}
 use Rattle.hys_prog.specs.declared.program.ProgItem.{ProgItem}
 use Rattle.hys_prog.specs.declared.program.Program.{Program}
-use Rattle.hys_prog.specs.Programs.{NameAt, is_named}
+use Rattle.hys_prog.specs.Programs.{is_named}
 use Rattle.hys_prog.specs.Steps.{places_from}
 use Rattle.hys_prog.specs.Steps as steps
 use Rattle.hys_prog.specs.Orders.{IsIn, IsNone, AreDifferent}
 use Rattle.hys_prog.specs.Orders as program
 use Rattle.hys_type.specs.Translation.{place_in, role_in, OneByOne, setting, IsItemOf, IsNamedTranslation, left_kind}
 use Rattle.hys_type.specs.Declaring.{declares, IsDeclaration}
+use Rattle.hys_prog.proofs.Names.{name_map, at_place, place_of, named_some}
 use Rattle.hys_type.proofs.KnownValues.{other_text, differ_texts}
 use Rattle.hys_type.proofs.Agree.{placed}
-use Rattle.hys_type.proofs.FormPlaces.{same_column, own_column}
+use Rattle.hys_type.proofs.FormPlaces.{same_column}
 use Rattle.hys_type.proofs.SameSteps.{names_differ}
-use Rattle.hys_type.proofs.ProgramForms.{Stands, stands_at, at_name, look_own}
-use Rattle.hys_type.proofs.ProgramItems.{place_injective, same_definition, Found, at_decl}
+use Rattle.hys_type.proofs.ProgramForms.{Stands, stands_at, look_own}
+use Rattle.hys_type.proofs.ProgramItems.{all_append, place_injective, same_definition, Found, at_decl}
 use Rattle.hys_type.proofs.Mentions.{body_mentions}
 
 -- ---- auxiliaries
@@ -96,39 +95,10 @@ role_aux section.Continuous d h = absurd (cc)
 role_aux section.OutputItem d h = absurd (cc)
 role_aux section.Must d h = absurd (cc)
 
--- ---- places
-in_places : (part : Role → Bool) (k : ℕ) (xs : List ProgName) (i j : ℕ) → j ≡ k + i → NameAt xs i (λ x. part x.role ≡ true) → IsIn j (places_from k part xs)
-in_places part k [] i j e h = absurd h
-in_places part k (x ∷ xs) zero j e h = subst (λ b. IsIn j (cond b (k ∷ places_from (suc k) part xs) (places_from (suc k) part xs))) (sym h) (inl (omega (arith, e)))
-in_places part k (x ∷ xs) (suc i) j e h = go (part x.role) (in_places part (suc k) xs i j (omega (arith, e)) h)
-  where
-    go : (b : Bool) → IsIn j (places_from (suc k) part xs) → IsIn j (cond b (k ∷ places_from (suc k) part xs) (places_from (suc k) part xs))
-    go true h = inr h
-    go false h = h
-
--- the name at a place
-record NamePlace (P : ProgName → Type 0) (xs : List ProgName) (k j : ℕ) : Type 0 where
-  index : ℕ
-  is : j ≡ k + index
-  has : NameAt xs index P
-
-place_name : (part : Role → Bool) (k : ℕ) (xs : List ProgName) (j : ℕ) → IsIn j (places_from k part xs) → NamePlace (λ x. part x.role ≡ true) xs k j
-place_name part k [] j h = absurd h
-place_name part k (x ∷ xs) j h = go (part x.role) refl h (place_name part (suc k) xs j)
-  where
-    later : NamePlace (λ x. part x.role ≡ true) xs (suc k) j → NamePlace (λ x. part x.role ≡ true) (x ∷ xs) k j
-    later n = record { index = suc n.index; is = omega (arith, n.is); has = n.has }
-
-    go : (b : Bool) → part x.role ≡ b → IsIn j (cond b (k ∷ places_from (suc k) part xs) (places_from (suc k) part xs)) → (IsIn j (places_from (suc k) part xs) → NamePlace (λ x. part x.role ≡ true) xs (suc k) j) →
-        NamePlace (λ x. part x.role ≡ true) (x ∷ xs) k j
-    go true e (inl q) f = record { index = 0; is = omega (arith, q); has = e }
-    go true e (inr q) f = later (f q)
-    go false e q f = later (f q)
-
 -- ---- items
 named_is : (j : ℕ) (o : Option ℕ) → IsTrue (is_named j o) ↔ (o ≡ Some j)
 named_is j None = (λ h. absurd (cc), λ h. absurd (cc))
-named_is j (Some m) = (λ h. ap (λ k. Some k) (same_column m j h), λ h. let e : m ≡ j = cc in ap (λ k. eqb k j) e ∙ own_column j)
+named_is j (Some m) = (λ h. ap (λ k. Some k) (same_column m j h), named_some j (Some m))
 
 some_item : (R : Item → ProgItem → Type 0) (T P : Item → Type 0) (Q : ProgItem → Type 0) → ((i : Item) (t : ProgItem) → R i t → T i → P i ↔ Q t) → (xs : List Item) (ts : List ProgItem) → OneByOne R xs ts → AllByRecursion T xs →
     source.SomeItem P xs ↔ program.SomeItem Q ts
@@ -148,8 +118,8 @@ some_item R T P Q f (i ∷ xs) (t ∷ ts) h r = (there (f i t h.0 r.0) (some_ite
 -- ---- lists
 module _ (tolerance : Number) (s : Source) (p : Program) (h : IsNamedTranslation tolerance s p) (once : DeclaredOnce s) (typed : Typed s) where
   aux_in : (n : List ℕ) → IsAux (names s) n → IsIn (place_in (names s) n) (steps.places steps.is_auxiliary p)
-  aux_in n a = in_places steps.is_auxiliary 0 p.names (place_in (names s) n) (place_in (names s) n) (omega arith)
-      (at_name (Stands a.name) (λ x. steps.is_auxiliary x.role ≡ true) (λ x t. ap steps.is_auxiliary t.role ∙ aux_role a.name.section a.auxiliary) p.names (place_in (names s) n)
+  aux_in n a = place_of steps.is_auxiliary 0 (place_in (names s) n) (place_in (names s) n) p.names (omega arith)
+      (name_map (Stands a.name) (λ x. steps.is_auxiliary x.role ≡ true) p.names (place_in (names s) n) (λ x t. ap steps.is_auxiliary t.role ∙ aux_role a.name.section a.auxiliary)
       (stands_at (parameters s.decls) s.decls p.names h.names n a.name a.found))
 
   item_leads : (n m : List ℕ) → IsAux (names s) n → IsAux (names s) m → (i : Item) (t : ProgItem) → IsItemOf (setting tolerance s) i t → ItemTyped (names s) i →
@@ -213,9 +183,9 @@ module _ (tolerance : Number) (s : Source) (p : Program) (h : IsNamedTranslation
   -- the texts of places of auxiliaries
   aux_text : AllByRecursion (λ d. IsTrue (declares d.section)) s.decls → (j : ℕ) → IsIn j (steps.places steps.is_auxiliary p) → (n : List ℕ) × (place_in (names s) n ≡ j) × IsAux (names s) n
   aux_text d j q =
-      let e : NamePlace (λ x. steps.is_auxiliary x.role ≡ true) p.names 0 j = place_name steps.is_auxiliary 0 p.names j q in
+      let e = at_place steps.is_auxiliary 0 j p.names q in
       let f : Found (parameters s.decls) (names s) (λ d. IsTrue (declares d.section)) (λ x. steps.is_auxiliary x.role ≡ true) j =
-      at_decl (parameters s.decls) (names s) (λ d. IsTrue (declares d.section)) (λ x. steps.is_auxiliary x.role ≡ true) 0 s.decls p.names h.names d (placed (names s) (names_differ s once)) (look_own (names s) (names_differ s once)) e.index j e.is e.has in (
+      at_decl (parameters s.decls) (names s) (λ d. IsTrue (declares d.section)) (λ x. steps.is_auxiliary x.role ≡ true) 0 s.decls p.names h.names d (placed (names s) (names_differ s once)) (look_own (names s) (names_differ s once)) e.0 j e.1 e.2 in (
         f.decl.name,
         f.place,
         record {
@@ -242,10 +212,6 @@ module _ (tolerance : Number) (s : Source) (p : Program) (h : IsNamedTranslation
       (f.0, f.1, circle_again f.0 f.2 (subst (program.Circular p) (sym f.1) c))
 
 -- ---- unnamed guards
-all_append : (P : Decl → Type 0) (xs ys : List Decl) → AllByRecursion P xs → AllByRecursion P ys → AllByRecursion P (xs ++ ys)
-all_append P [] ys h k = k
-all_append P (x ∷ xs) ys h k = (h.0, all_append P xs ys h.1 k)
-
 guards_declared : (gs : List Guard) → AllByRecursion (λ d. IsTrue (declares d.section)) (map guard_decl gs)
 guards_declared [] = tt
 guards_declared (g ∷ gs) = (refl, guards_declared gs)
