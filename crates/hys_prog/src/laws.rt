@@ -1,6 +1,6 @@
 //! What holds of programs, as calls that do nothing.
 
-ghost use Rattle.std.specs.Prelude.{◌≡◌, ◌↔◌, ℕ, List, None, Some, false, length};
+ghost use Rattle.std.specs.Prelude.{◌≡◌, [], ◌∷◌, ◌↔◌, ℕ, List, None, Some, false, length};
 ghost use Rattle.hys_number.specs.Number.{Number};
 ghost use Rattle.hys_number.specs.Ops.{whole};
 ghost use Rattle.hys_lin.specs.Operations.{plus};
@@ -37,9 +37,13 @@ pub fn no_stop_is_legal()
     ensures legal { (p : Program) (o : Order) (x u : List Number) (w : Assignment) → IsProgram p → IsOrder p o → IsValued p x u w → IsLawful (stops p o w) ↔ Legal p x u w (numbers_in w p.items (places is_state p)) (numbers_in w p.items (places is_output p)) }
 {}
 
-/// The guard program at the edge of its guard, in the gap, at the tolerance, outside the box, and
+/// The guard program is lawful and has an order. At the edge of its guard its auxiliary is 1; then
+/// the first stop at the edge, in the gap, at the tolerance, outside the box, and
 /// where a partial sum doesn't fit.
 pub fn guard_stops()
+    ensures program { IsProgram guarded }
+    ensures order { IsOrder guarded d_first }
+    ensures valued { IsValued guarded (whole 5 ∷ []) [] (both (whole 5) (whole 1)) }
     ensures edge { first_stop (stops guarded d_first (both (whole 5) (whole 1))) ≡ None }
     ensures edge_value { number_in (both (whole 5) (whole 1)) 1 guarded.items ≡ whole 1 }
     ensures gap { first_stop (stops guarded d_first (both in_gap (whole 0))) ≡ Some (Gap 0) }
