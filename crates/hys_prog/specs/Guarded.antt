@@ -1,6 +1,6 @@
 -- The program of a state x from 0 to 10, which keeps its value, and an auxiliary d: whether x is at least 5, with
 -- tolerance 1/1000.
-use Rattle.std.specs.Prelude.{ℕ, List, [], ◌∷◌, ◌++◌, Some, None, codes, negsuc, pos}
+use Rattle.std.specs.Prelude.{ℕ, List, [], ◌∷◌, Some, None, codes, negsuc, pos}
 use Rattle.hys_number.specs.Number.{Number, make}
 use Rattle.hys_number.specs.Ops.{whole}
 use Rattle.hys_lin.specs.Sums.{Assignment, at}

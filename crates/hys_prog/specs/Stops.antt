@@ -1,10 +1,10 @@
 -- What may stop a step, in the order in which it is looked for, over an assignment of exact numbers.
-use Rattle.std.specs.Prelude.{◌≡◌, ℕ, suc, List, [], ◌∷◌, ◌++◌, Option, Some, None, Bool, true, false, cond, ◌&&◌, ◌||◌, map, IsTrue, Result, Ok, Err}
+use Rattle.std.specs.Prelude.{◌≡◌, ℕ, suc, List, [], ◌∷◌, ◌++◌, Option, Some, None, Bool, true, cond, ◌&&◌, ◌||◌, map, IsTrue, Result, Ok, Err}
 use Rattle.std.specs.Ordering.{is_le}
 use Rattle.hys_number.specs.Number.{Number}
 use Rattle.hys_number.specs.Ops.{whole, fits}
 use Rattle.hys_frac.specs.Compare.{number_cmp, parts_eq}
-use Rattle.hys_lin.specs.Bits.{bit, is_one}
+use Rattle.hys_lin.specs.Bits.{bit}
 use Rattle.hys_lin.specs.Sums.{Assignment, value}
 use Rattle.hys_lin.specs.Operations.{summing, outcome}
 use Rattle.hys_lin.specs.declared.form.Affine.{Affine}
