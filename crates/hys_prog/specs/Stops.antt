@@ -138,7 +138,8 @@ demands_from k w (t ∷ ts) = cond (is_must t.body) (body_checks w k t.body) [] 
 -- definition, the demands, the next values, and the outputs.
 abbrev pub stops : Program → Order → Assignment → List Check
 stops p o w =
-    boxes_from 0 is_state w p.names ++ (boxes_from 0 is_input w p.names ++ (checks_along w p.items o.names ++ (demands_from 0 w p.items ++
+    boxes_from 0 is_state w p.names ++ (boxes_from 0 is_input w p.names ++ (checks_along w p.items o.names ++
+    (demands_from 0 w p.items ++
     (checks_along w p.items (places is_state p) ++ checks_along w p.items (places is_output p)))))
 
 -- ---- what is answered
