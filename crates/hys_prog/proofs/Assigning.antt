@@ -1,32 +1,24 @@
 -- The assignment of a step: along an order there is one, and no other.
-use Rattle.std.proofs.Common.{◌≡◌, ℕ, zero, suc, ◌+◌, ◌<◌, List, [], ◌∷◌, ◌++◌, Option, Some, None, Bool, true, false, cond, length, get_or, set, refl, sym, ◌∙◌, ap, ap₂, subst, arith, inl, inr, ◌⊎◌, get_or-set_same, get_or-set_other, length-set}
+use Rattle.std.proofs.Common.{◌≡◌, ℕ, zero, suc, ◌+◌, ◌<◌, List, [], ◌∷◌, ◌++◌, Bool, true, false, cond, length, set, refl, sym, ◌∙◌, ap₂, subst, arith, inl, inr, ◌⊎◌, get_or-set_same, get_or-set_other, length-set}
 use Rattle.std.proofs.lemmas.Bool.{cases_eq}
 use Rattle.std.specs.List.{AllByRecursion}
 use Rattle.hys_number.specs.Number.{Number}
-use Rattle.hys_number.specs.Ops.{whole, ◌≤ₙ◌, ◌<ₙ◌}
-use Rattle.hys_lin.specs.declared.form.Affine.{Affine}
-use Rattle.hys_lin.specs.Bits.{bit}
-use Rattle.hys_lin.specs.Sums.{Assignment, at, value}
-use Rattle.hys_formula.specs.Formulas.{tree_of, truth}
+use Rattle.hys_number.specs.Ops.{whole}
+use Rattle.hys_lin.specs.Sums.{Assignment, at}
 use Rattle.hys_prog.specs.declared.program.Role.{Role}
 use Rattle.hys_prog.specs.declared.program.Role.TheVariants.{State, Input, Output, Parameter, Aux}
 use Rattle.hys_prog.specs.declared.program.Name.{Name}
-use Rattle.hys_prog.specs.declared.program.Body.{Body}
-use Rattle.hys_prog.specs.declared.program.Body.TheVariants.{Guard, Choice, Logic, Linear, NextBool, NextReal, OutBool, OutReal, MustHold, MustMost, MustZero}
 use Rattle.hys_prog.specs.declared.program.ProgItem.{ProgItem}
 use Rattle.hys_prog.specs.declared.program.Program.{Program}
 use Rattle.hys_prog.specs.declared.program.Order.{Order}
-use Rattle.hys_prog.specs.Programs.{IsProgram, EachItem, NameAt, Named, Suits, IsVariable, has_column, is_named, is_defined, definitions}
-use Rattle.hys_prog.specs.Steps.{places, places_from, is_auxiliary, is_state, is_output, is_input, is_parameter, Case, CaseOf, GuardCase, OfName}
+use Rattle.hys_prog.specs.Programs.{IsProgram, NameAt, IsVariable, has_column}
+use Rattle.hys_prog.specs.Steps.{places, places_from, is_auxiliary, is_output}
 use Rattle.hys_prog.specs.Orders.{IsIn, IsNone, IsFirst, IsReady, IsOrderAfter, IsOrder, Leads}
-use Rattle.hys_prog.specs.Places.{ItemAt, Defines}
-use Rattle.hys_prog.specs.Stops.{Check, at_most, checks_of, checks_along, number_of, number_in}
+use Rattle.hys_prog.specs.Stops.{Check, checks_along, number_in}
 use Rattle.hys_prog.specs.Walk.{found, found_checks, with_found}
-use Rattle.hys_prog.proofs.Defined.{name_below, some_named, at_item}
-use Rattle.hys_prog.proofs.Deciding.{yes_most, no_most, sides}
-use Rattle.hys_prog.proofs.Placing.{name_map, order_auxiliary, first_at}
-use Rattle.hys_prog.proofs.Walking.{first_number}
-use Rattle.hys_prog.proofs.Reading.{ReadsFor, AllRead, IsAuxBody, Same, same_number_in, same_checks_of, each_reads, aux_suits, named_suits}
+use Rattle.hys_prog.proofs.Defined.{name_below}
+use Rattle.hys_prog.proofs.Placing.{order_auxiliary}
+use Rattle.hys_prog.proofs.Reading.{ReadsFor, Same, same_number_in, same_checks_of, each_reads}
 
 -- ---- names
 -- a state, an input or a parameter

@@ -1,5 +1,5 @@
 -- What the tests on numbers decide.
-use Rattle.std.proofs.Common.{◌≡◌, Bool, true, false, refl, sym, ◌∙◌, ◌&&◌, ◌||◌, ◌⊎◌, inl, inr, cond, int_eq, pos}
+use Rattle.std.proofs.Common.{◌≡◌, Bool, true, false, refl, ◌&&◌, ◌||◌, ◌⊎◌, inl, inr}
 use Rattle.std.specs.Ordering.{MatchOrdering, is_le}
 use Rattle.std.specs.declared.cmp.Ordering.{Ordering}
 use Rattle.std.specs.declared.cmp.Ordering.TheVariants.{Less, Equal, Greater}
@@ -7,8 +7,7 @@ use Rattle.hys_number.specs.Number.{Number}
 use Rattle.hys_number.specs.Ops.{◌≤ₙ◌, ◌<ₙ◌, whole}
 use Rattle.hys_number.proofs.Order.{le_refl', le_of_lt, lt_of_le-lt, lt_irrefl}
 use Rattle.hys_frac.specs.Compare.{number_cmp, number_ranks, eq_is}
-use Rattle.hys_lin.specs.Bits.{bit, IsBit}
-use Rattle.hys_lin.specs.Sums.{Within}
+use Rattle.hys_lin.specs.Bits.{IsBit}
 use Rattle.hys_ast.specs.declared.source.Kind.{Kind}
 use Rattle.hys_ast.specs.declared.source.Kind.TheVariants as kind
 use Rattle.hys_prog.specs.declared.program.Name.{Name}

@@ -1,15 +1,12 @@
 -- The stops of a step over its assignment, and legal steps.
-use Rattle.std.proofs.Common.{◌≡◌, ℕ, zero, suc, ◌+◌, ◌<◌, List, [], ◌∷◌, ◌++◌, Option, Some, None, Bool, true, false, cond, map, length, get_or, refl, sym, ◌∙◌, ap, ap₂, subst, arith, inl, inr, ◌⊎◌, ◌||◌, Result, Ok, Err}
+use Rattle.std.proofs.Common.{◌≡◌, ℕ, zero, suc, ◌+◌, List, [], ◌∷◌, ◌++◌, Option, Some, None, Bool, true, false, cond, map, length, refl, sym, ◌∙◌, ap, ap₂, subst, arith, inl, inr, ◌⊎◌, ◌||◌, Result, Ok, Err}
 use Rattle.std.proofs.lemmas.List.{append_assoc}
 use Rattle.std.specs.Prelude.{IsTrue, IfOk, ◌↔◌}
 use Rattle.hys_number.specs.Number.{Number}
-use Rattle.hys_number.specs.Ops.{whole, fits, ◌≤ₙ◌, ◌<ₙ◌}
+use Rattle.hys_number.specs.Ops.{whole, ◌≤ₙ◌, ◌<ₙ◌}
 use Rattle.hys_number.proofs.Order.{lt_of_le-lt, lt_of_lt-le, lt_irrefl}
-use Rattle.hys_lin.specs.declared.form.Affine.{Affine}
 use Rattle.hys_lin.specs.declared.lost.Lost.{Lost}
 use Rattle.hys_lin.specs.Sums.{Assignment, at, value}
-use Rattle.hys_lin.specs.Operations.{outcome}
-use Rattle.hys_formula.specs.Formulas.{tree_of, truth}
 use Rattle.hys_prog.specs.declared.program.Role.{Role}
 use Rattle.hys_prog.specs.declared.program.Role.TheVariants.{State, Input, Output, Parameter, Aux}
 use Rattle.hys_prog.specs.declared.program.Name.{Name}
@@ -23,18 +20,18 @@ use Rattle.hys_prog.specs.declared.stop.Stop.TheVariants.{Bounds, Gap, Must, Ran
 use Rattle.hys_prog.specs.declared.stop.StepFault.{StepFault}
 use Rattle.hys_prog.specs.declared.stop.Stepped.{Stepped}
 use Rattle.hys_prog.specs.Programs.{IsProgram, EachItem, NameAt, Named, Suits, IsVariable, has_column, is_named, is_must, is_defined, definitions}
-use Rattle.hys_prog.specs.Steps.{places, places_from, is_auxiliary, is_state, is_output, is_input, is_given, InBox, InGap, GapAt, Demand, DemandOf, Next, NextOf, OfName, EachNameFrom, Step, Legal}
+use Rattle.hys_prog.specs.Steps.{places, is_auxiliary, is_state, is_output, is_input, is_given, InBox, InGap, GapAt, Demand, DemandOf, Next, NextOf, OfName, EachNameFrom, Step, Legal}
 use Rattle.hys_prog.specs.Orders.{IsOrder, IsIn}
 use Rattle.hys_prog.specs.Places.{Defines}
 use Rattle.hys_prog.specs.Stops.{Check, IsValued, Judged, first_stop, at_most, equals, in_box, one, no_gap, fitting, form_fits, body_checks, boxes_from, checks_of, checks_along, demands_from, stops, number_of, number_in, numbers_in, Keeps, IsLawful, IsStepped, IsMet, AllFit}
-use Rattle.hys_prog.specs.Walk.{Gives, found_checks, started, exact, walk_checks, given_checks, after_checks}
+use Rattle.hys_prog.specs.Walk.{Gives, found_checks, started, exact, walk_checks, after_checks}
 use Rattle.hys_prog.proofs.Defined.{at_item, each_at, some_named}
 use Rattle.hys_prog.proofs.Deciding.{most_yes, yes_most, equal_yes, yes_equal, or_parts, or_left, or_right, box_yes, yes_box, sides}
 use Rattle.hys_prog.proofs.Placing.{name_map, first_at, in_part, state_defined, output_defined}
-use Rattle.hys_prog.proofs.Walking.{first_number, checks_here, started_count}
+use Rattle.hys_prog.proofs.Walking.{checks_here, started_count}
 use Rattle.hys_prog.proofs.Reading.{AllRead, Same, same_along, same_demands, same_numbers, all_read, named_suits}
-use Rattle.hys_prog.proofs.Assigning.{is_fixed, Is, Follows, found_same, in_order}
-use Rattle.hys_prog.proofs.Valuing.{Stands, suits_here, once_here, number_here, each_of, cases_follow, started_agrees, valued_exact, exact_valued}
+use Rattle.hys_prog.proofs.Assigning.{is_fixed, found_same, in_order}
+use Rattle.hys_prog.proofs.Valuing.{Stands, once_here, number_here, each_of, cases_follow, started_agrees, valued_exact, exact_valued}
 
 -- ---- the checks are those of each valued assignment
 boxes_same : (part : Role → Bool) (v w : Assignment) (k : ℕ) (ks : List Name) → ((m : ℕ) → NameAt ks m (λ x. part x.role ≡ true) → v (k + m) ≡ w (k + m)) → boxes_from k part v ks ≡ boxes_from k part w ks

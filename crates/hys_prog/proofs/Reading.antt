@@ -1,5 +1,5 @@
 -- What a body reads: assignments that agree there give the same number and the same checks.
-use Rattle.std.proofs.Common.{◌≡◌, ℕ, zero, suc, List, [], ◌∷◌, ◌++◌, Option, Some, None, Bool, true, false, cond, refl, sym, ◌∙◌, ap, ap₂, subst, inl, inr, ◌⊎◌, not}
+use Rattle.std.proofs.Common.{◌≡◌, ℕ, zero, suc, List, [], ◌∷◌, ◌++◌, Option, Some, None, Bool, true, false, cond, refl, ◌∙◌, ap, ap₂, subst, inl, inr, not}
 use Rattle.hys_number.specs.Number.{Number}
 use Rattle.hys_number.specs.Ops.{◌+ₙ◌, ◌*ₙ◌, whole}
 use Rattle.hys_lin.specs.declared.form.Term.{Term}
@@ -10,16 +10,16 @@ use Rattle.hys_lin.specs.Sums.{Assignment, sum_of, value, EachColumn}
 use Rattle.hys_lin.specs.Operations.{summing, times, plus}
 use Rattle.hys_formula.specs.Formulas.{FormulaTree, constant, named, negated, joined, tree_of, truth, connect, EachName}
 use Rattle.hys_prog.specs.declared.program.Role.{Role}
-use Rattle.hys_prog.specs.declared.program.Role.TheVariants.{State, Input, Output, Parameter, Aux}
+use Rattle.hys_prog.specs.declared.program.Role.TheVariants.{State, Output}
 use Rattle.hys_prog.specs.declared.program.Name.{Name}
 use Rattle.hys_prog.specs.declared.program.Body.{Body}
 use Rattle.hys_prog.specs.declared.program.Body.TheVariants.{Guard, Choice, Logic, Linear, NextBool, NextReal, OutBool, OutReal, MustHold, MustMost, MustZero}
 use Rattle.hys_prog.specs.declared.program.ProgItem.{ProgItem}
-use Rattle.hys_prog.specs.declared.stop.Stop.TheVariants.{Gap, Must}
+use Rattle.hys_prog.specs.declared.stop.Stop.TheVariants.{Must}
 use Rattle.hys_prog.specs.Programs.{EachItem, NameAt, BodyOver, Named, Suits, IsVariable, IsBooleanVariable, is_named, is_must}
 use Rattle.hys_prog.specs.Steps.{is_auxiliary}
 use Rattle.hys_prog.specs.Orders.{Stands, HasTerm, MentionedIn, SomeItem}
-use Rattle.hys_prog.specs.Stops.{Check, at_most, equals, evaluating, fitting, form_fits, no_gap, one, number_of, body_checks, number_in, numbers_in, checks_of, checks_along, demands_from}
+use Rattle.hys_prog.specs.Stops.{Check, at_most, equals, fitting, form_fits, no_gap, one, number_of, body_checks, number_in, numbers_in, checks_of, checks_along, demands_from}
 use Rattle.hys_prog.proofs.Defined.{some_named}
 
 -- each name that the body reads has the property

@@ -1,7 +1,6 @@
 -- First stops.
-use Rattle.std.proofs.Common.{◌≡◌, ◌∙◌, ◌++◌, List, [], ◌∷◌, ℕ, Option, Some, None, Bool, true, false, cond, refl, sym, ap, Result, Ok, Err, subst}
+use Rattle.std.proofs.Common.{◌≡◌, ◌∙◌, ◌++◌, List, [], ◌∷◌, ℕ, Option, Some, None, Bool, true, false, cond, refl, sym, Result, Ok, Err, subst}
 use Rattle.std.specs.Result.{IsErrAnd}
-use Rattle.hys_number.specs.Number.{Number}
 use Rattle.hys_number.specs.Ops.{◌+ₙ◌, fits}
 use Rattle.hys_number.proofs.Field.{add_comm}
 use Rattle.hys_lin.specs.declared.form.Affine.{Affine}

@@ -1,7 +1,7 @@
 -- Assignments that are valued: given by the parameters, the states and the inputs, and by the definitions.
-use Rattle.std.proofs.Common.{◌≡◌, ℕ, zero, suc, ◌+◌, ◌<◌, ◌≤◌, List, [], ◌∷◌, ◌++◌, Option, Some, None, Bool, true, false, cond, drop, map, length, get_or, refl, sym, ◌∙◌, ap, ap₂, subst, arith, inl, inr, ◌⊎◌}
+use Rattle.std.proofs.Common.{◌≡◌, ℕ, zero, suc, ◌+◌, ◌<◌, List, [], ◌∷◌, Option, Some, None, Bool, true, false, cond, drop, map, length, get_or, refl, sym, ◌∙◌, ap, ap₂, subst, arith, inl, inr, ◌⊎◌}
 use Rattle.std.proofs.Math.Seq.{drop-cons}
-use Rattle.std.proofs.lemmas.List.{drop_all, append_assoc}
+use Rattle.std.proofs.lemmas.List.{drop_all}
 use Rattle.std.specs.Prelude.{IsTrue}
 use Rattle.hys_number.specs.Number.{Number}
 use Rattle.hys_number.specs.Ops.{whole, ◌≤ₙ◌, ◌<ₙ◌}
@@ -17,19 +17,18 @@ use Rattle.hys_prog.specs.declared.program.Body.TheVariants.{Guard, Choice, Logi
 use Rattle.hys_prog.specs.declared.program.ProgItem.{ProgItem}
 use Rattle.hys_prog.specs.declared.program.Program.{Program}
 use Rattle.hys_prog.specs.declared.program.Order.{Order}
-use Rattle.hys_prog.specs.declared.stop.Stop.TheVariants.{Bounds}
-use Rattle.hys_prog.specs.Programs.{IsProgram, EachItem, NameAt, Named, Suits, IsVariable, has_column, is_named, is_defined, definitions}
+use Rattle.hys_prog.specs.Programs.{IsProgram, EachItem, NameAt, Named, Suits, is_named, is_defined, definitions}
 use Rattle.hys_prog.specs.Steps.{places, places_from, is_auxiliary, is_state, is_output, is_input, is_parameter, Case, CaseOf, GuardCase, OfName, EachNameFrom}
 use Rattle.hys_prog.specs.Orders.{IsOrder}
-use Rattle.hys_prog.specs.Places.{ItemAt, Defines}
-use Rattle.hys_prog.specs.Stops.{Check, IsValued, at_most, in_box, one, boxes_from, checks_along, demands_from, stops, number_of, number_in}
-use Rattle.hys_prog.specs.Walk.{found, found_checks, started, started_from, first_value, advanced, exact, walk_checks, given_checks, after_checks}
-use Rattle.hys_prog.proofs.Defined.{name_below, some_named, at_item, each_at}
+use Rattle.hys_prog.specs.Places.{Defines}
+use Rattle.hys_prog.specs.Stops.{IsValued, at_most, number_of, number_in}
+use Rattle.hys_prog.specs.Walk.{started, started_from, first_value, advanced, exact}
+use Rattle.hys_prog.proofs.Defined.{some_named, at_item, each_at}
 use Rattle.hys_prog.proofs.Deciding.{yes_most, no_most, sides}
 use Rattle.hys_prog.proofs.Placing.{name_map, first_at}
 use Rattle.hys_prog.proofs.Walking.{first_number, started_count}
-use Rattle.hys_prog.proofs.Reading.{AllRead, IsAuxBody, Same, same_along, same_demands, all_read, aux_suits, named_suits}
-use Rattle.hys_prog.proofs.Assigning.{is_fixed, Is, Follows, Agrees, IsKnown, found_agrees, found_same, found_follows, fixed_kept}
+use Rattle.hys_prog.proofs.Reading.{IsAuxBody, aux_suits, named_suits}
+use Rattle.hys_prog.proofs.Assigning.{is_fixed, Is, Follows, Agrees, found_agrees, found_follows, fixed_kept}
 
 -- ---- the case of a body
 guard_number : (w : Assignment) (n : ℕ) (g : Number) → GuardCase w n g → w n ≡ bit (at_most g (whole 0))

@@ -1,5 +1,5 @@
 -- Walks over names and items: what is judged here, and what is still to be judged.
-use Rattle.std.proofs.Common.{◌≡◌, ℕ, zero, suc, ◌+◌, ◌<◌, List, [], ◌∷◌, ◌++◌, Option, Some, None, Bool, true, false, cond, drop, length, get_or, refl, sym, ◌∙◌, ap, subst, arith, add-one, set}
+use Rattle.std.proofs.Common.{◌≡◌, ℕ, zero, suc, ◌+◌, ◌<◌, List, [], ◌∷◌, ◌++◌, Option, None, drop, length, get_or, refl, sym, ◌∙◌, ap, subst, arith, add-one, set}
 use Rattle.std.proofs.Math.Seq.{drop-cons}
 use Rattle.std.proofs.lemmas.List.{append_assoc}
 use Rattle.std.specs.List.{AllByRecursion}
@@ -9,7 +9,6 @@ use Rattle.hys_prog.specs.declared.program.ProgItem.{ProgItem}
 use Rattle.hys_prog.specs.declared.stop.Stop.{Stop}
 use Rattle.hys_prog.specs.declared.stop.StepFault.{StepFault}
 use Rattle.hys_prog.specs.declared.stop.StepFault.TheVariants.{Stop as Stopped, Memory}
-use Rattle.hys_prog.specs.Programs.{is_named}
 use Rattle.hys_prog.specs.Stops.{Check, first_stop, Faulted, body_checks, checks_of, checks_along, number_of, number_in, numbers_in}
 use Rattle.hys_prog.specs.Walk.{IsFirstAt, IsPlaced, found, found_checks, with_found, advanced, started_from}
 use Rattle.hys_prog.specs.Steps.{is_state, is_input}

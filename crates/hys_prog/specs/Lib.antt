@@ -6,3 +6,4 @@ pub mod Places
 pub mod Stops
 pub mod Walk
 pub mod Guarded
+pub mod Exactness

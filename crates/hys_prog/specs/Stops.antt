@@ -1,10 +1,10 @@
 -- What may stop a step, in the order in which it is looked for, over an assignment of exact numbers.
-use Rattle.std.specs.Prelude.{◌≡◌, ℕ, suc, List, [], ◌∷◌, ◌++◌, Option, Some, None, Bool, true, false, cond, ◌&&◌, ◌||◌, map, IsTrue, Result, Ok, Err}
+use Rattle.std.specs.Prelude.{◌≡◌, ℕ, suc, List, [], ◌∷◌, ◌++◌, Option, Some, None, Bool, true, cond, ◌&&◌, ◌||◌, map, IsTrue, Result, Ok, Err}
 use Rattle.std.specs.Ordering.{is_le}
 use Rattle.hys_number.specs.Number.{Number}
 use Rattle.hys_number.specs.Ops.{whole, fits}
 use Rattle.hys_frac.specs.Compare.{number_cmp, parts_eq}
-use Rattle.hys_lin.specs.Bits.{bit, is_one}
+use Rattle.hys_lin.specs.Bits.{bit}
 use Rattle.hys_lin.specs.Sums.{Assignment, value}
 use Rattle.hys_lin.specs.Operations.{valuing, outcome}
 use Rattle.hys_lin.specs.declared.form.Affine.{Affine}
@@ -138,7 +138,8 @@ demands_from k w (t ∷ ts) = cond (is_must t.body) (body_checks w k t.body) [] 
 -- definition, the demands, the next values, and the outputs.
 abbrev pub stops : Program → Order → Assignment → List Check
 stops p o w =
-    boxes_from 0 is_state w p.names ++ (boxes_from 0 is_input w p.names ++ (checks_along w p.items o.names ++ (demands_from 0 w p.items ++
+    boxes_from 0 is_state w p.names ++ (boxes_from 0 is_input w p.names ++ (checks_along w p.items o.names ++
+    (demands_from 0 w p.items ++
     (checks_along w p.items (places is_state p) ++ checks_along w p.items (places is_output p)))))
 
 -- ---- what is answered

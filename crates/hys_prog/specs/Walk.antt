@@ -1,5 +1,5 @@
 -- The exact values of a program's names, found along an order of definition.
-use Rattle.std.specs.Prelude.{◌≡◌, ℕ, zero, suc, ◌+◌, ◌<◌, List, [], ◌∷◌, ◌++◌, Bool, true, false, cond, length, map}
+use Rattle.std.specs.Prelude.{◌≡◌, ℕ, zero, suc, ◌<◌, List, [], ◌∷◌, ◌++◌, Bool, true, false, cond, length, map}
 use Rattle.std.proofs.Common.{get_or, set}
 use Rattle.hys_number.specs.Number.{Number}
 use Rattle.hys_number.specs.Ops.{whole}
@@ -38,7 +38,8 @@ first_value Aux k a b = whole 0
 -- the values of the names at first, where i states and j inputs are given before them
 abbrev pub started_from : List Name → ℕ → ℕ → List Number → List Number → List Number
 started_from [] i j x u = []
-started_from (k ∷ ks) i j x u = first_value k.role k (at x i) (at u j) ∷ started_from ks (advanced i (is_state k.role)) (advanced j (is_input k.role)) x u
+started_from (k ∷ ks) i j x u =
+    first_value k.role k (at x i) (at u j) ∷ started_from ks (advanced i (is_state k.role)) (advanced j (is_input k.role)) x u
 
 abbrev pub started : List Name → List Number → List Number → List Number
 started names x u = started_from names 0 0 x u
@@ -76,10 +77,13 @@ abbrev pub given_checks : List Name → List Number → List Check
 given_checks names vs = boxes_from 0 is_state (at vs) names ++ boxes_from 0 is_input (at vs) names
 
 abbrev pub after_checks : Program → List Number → List Check
-after_checks p vs = demands_from 0 (at vs) p.items ++ (checks_along (at vs) p.items (places is_state p) ++ checks_along (at vs) p.items (places is_output p))
+after_checks p vs =
+    demands_from 0 (at vs) p.items ++
+    (checks_along (at vs) p.items (places is_state p) ++ checks_along (at vs) p.items (places is_output p))
 
 abbrev pub walk_checks : Program → Order → List Number → List Number → List Check
-walk_checks p o x u = given_checks p.names (started p.names x u) ++ (found_checks p.items o.names (started p.names x u) ++ after_checks p (exact p o x u))
+walk_checks p o x u =
+    given_checks p.names (started p.names x u) ++ (found_checks p.items o.names (started p.names x u) ++ after_checks p (exact p o x u))
 
 -- what a step gives over the values of the names: the auxiliaries', and what the items give to states and outputs
 pub record Gives (p : Program) (w : Assignment) (r : Stepped) : Type 0 where

@@ -1,14 +1,12 @@
 //! What holds of programs, as calls that do nothing.
 
-ghost use Rattle.std.specs.Prelude.{◌≡◌, ◌↔◌, ◌<◌, ℕ, List, None, Some, false, length};
-ghost use Rattle.hys_number.specs.Number.{Number};
+ghost use Rattle.std.specs.Prelude.{◌≡◌, ◌<◌, [], ◌∷◌, ℕ, List, None, Some};
 ghost use Rattle.hys_number.specs.Ops.{whole};
 ghost use Rattle.hys_lin.specs.Operations.{plus};
-ghost use Rattle.hys_lin.specs.Sums.{Assignment};
-ghost use Rattle.hys_prog.specs.Programs.{IsProgram, NameAt};
+ghost use Rattle.hys_prog.specs.Programs.{IsProgram};
 ghost use Rattle.hys_prog.specs.Orders.{IsOrder};
-ghost use Rattle.hys_prog.specs.Steps.{Legal, Step, places, is_input, is_output, is_state};
-ghost use Rattle.hys_prog.specs.Stops.{AllFit, Check, IsLawful, IsValued, first_stop, number_in, numbers_in, stops};
+ghost use Rattle.hys_prog.specs.Exactness.{HasAssignments, HasOneAssignment, HasOneStep, IsLegalExactly, PassesExactly};
+ghost use Rattle.hys_prog.specs.Stops.{Check, IsValued, first_stop, number_in, stops};
 ghost use Rattle.hys_prog.specs.declared.program.Program.{Program};
 ghost use Rattle.hys_prog.specs.declared.program.Order.{Order};
 ghost use Rattle.hys_prog.specs.declared.stop.Stop.TheVariants.{Bounds, Gap, Must, Range};
@@ -29,28 +27,25 @@ pub fn crossed()
 /// assignment of exact numbers. Two of them agree on all names that aren't outputs, and their steps
 /// on the next values and the outputs.
 pub fn one_assignment()
-    ensures exists { (p : Program) (o : Order) (x u : List Number) → IsProgram p → IsOrder p o →
-        length x ≡ length (places is_state p) → length u ≡ length (places is_input p) → (w : Assignment) ×
-        IsValued p x u w }
-    ensures same { (p : Program) (o : Order) (x u : List Number) (v w : Assignment) → IsProgram p → IsOrder p o →
-        IsValued p x u v → IsValued p x u w → (n : ℕ) → NameAt p.names n (λ k. is_output k.role ≡ false) → v n ≡ w n }
-    ensures step { (p : Program) (o : Order) (x u : List Number) (v w : Assignment) (x1 x2 y1 y2 : List Number) →
-        IsProgram p → IsOrder p o → Step p x u v x1 y1 → Step p x u w x2 y2 → (x1 ≡ x2) × (y1 ≡ y2) }
+    ensures exists { (p : Program) (o : Order) → IsProgram p → IsOrder p o → HasAssignments p }
+    ensures same { (p : Program) (o : Order) → IsProgram p → IsOrder p o → HasOneAssignment p }
+    ensures step { (p : Program) (o : Order) → IsProgram p → IsOrder p o → HasOneStep p }
 {}
 
 /// No check fails exactly where those of boxes, gaps and demands pass and all numbers fit. The
 /// former do exactly where the assignment is a legal step with the next values and the outputs that
 /// the items give.
 pub fn no_stop_is_legal()
-    ensures none { (cs : List Check) → (first_stop cs ≡ None) ↔ (IsLawful cs × AllFit cs) }
-    ensures legal { (p : Program) (o : Order) (x u : List Number) (w : Assignment) → IsProgram p → IsOrder p o →
-        IsValued p x u w → IsLawful (stops p o w) ↔ Legal p x u w (numbers_in w p.items (places is_state p))
-        (numbers_in w p.items (places is_output p)) }
+    ensures none { (cs : List Check) → PassesExactly cs }
+    ensures legal { (p : Program) (o : Order) → IsProgram p → IsOrder p o → IsLegalExactly p o }
 {}
 
-/// The guard program at the edge of its guard, in the gap, at the tolerance, outside the box, and
-/// where a partial sum doesn't fit.
+/// The guard program is lawful and has an order. Its first stop and its auxiliary at the edge of
+/// the guard, in the gap, at the tolerance, outside the box, and where a partial sum doesn't fit.
 pub fn guard_stops()
+    ensures program { IsProgram guarded }
+    ensures order { IsOrder guarded d_first }
+    ensures valued { IsValued guarded (whole 5 ∷ []) [] (both (whole 5) (whole 1)) }
     ensures edge { first_stop (stops guarded d_first (both (whole 5) (whole 1))) ≡ None }
     ensures edge_value { number_in (both (whole 5) (whole 1)) 1 guarded.items ≡ whole 1 }
     ensures gap { first_stop (stops guarded d_first (both in_gap (whole 0))) ≡ Some (Gap 0) }

@@ -11,6 +11,8 @@ mod program;
 mod settle;
 mod stepping;
 mod stop;
+#[cfg(test)]
+mod tests;
 
 pub use definition::definitions;
 pub use hys_formula::{Connective, Formula, NameId};

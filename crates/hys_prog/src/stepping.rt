@@ -56,11 +56,11 @@ fn walk(
     ensures judged { Judged (walk_checks program.now order.now state.now input.now) result }
 {
     let places = definitions(alloc, program)?;
+    let items = program.items.items();
     let start = match given(alloc, program.names.items(), state, input) {
         Ok(start) => start,
         Err(fault) => return Err(fault),
     };
-    let items = program.items.items();
     let values = match found(items, &places, order.names.items(), start) {
         Ok(values) => values,
         Err(fault) => return Err(fault),

@@ -1,4 +1,4 @@
-use Rattle.std.proofs.Common.{◌≡◌, ◌++◌, drop, length}
+use Rattle.std.proofs.Common.{◌≡◌, ◌++◌, drop}
 use Rattle.std.specs.List.{AllByRecursion}
 use Rattle.hys_lin.specs.Sums.{at}
 use Rattle.hys_prog.specs.Stops.{first_stop, checks_along, numbers_in}

@@ -1,4 +1,4 @@
-use Rattle.std.proofs.Common.{◌≡◌, ◌++◌, drop, length}
+use Rattle.std.proofs.Common.{◌≡◌, drop, length}
 use Rattle.std.specs.List.{AllByRecursion}
 use Rattle.hys_prog.specs.Stops.{first_stop}
 use Rattle.hys_prog.specs.Walk.{IsPlaced, found, found_checks}

@@ -1,4 +1,4 @@
-use Rattle.std.proofs.Common.{◌≡◌, ◌<◌, ◌++◌, List, [], cond, drop, length, suc, ap, arith, ◌+◌, add-one}
+use Rattle.std.proofs.Common.{◌<◌, List, [], cond, drop, length, suc, ap, arith, add-one}
 use Rattle.hys_lin.specs.Sums.{at}
 use Rattle.hys_prog.specs.declared.program.ProgItem.{ProgItem}
 use Rattle.hys_prog.specs.Programs.{is_must}

@@ -1,9 +1,8 @@
-use Rattle.std.proofs.Common.{◌≡◌, ◌<◌, ap, get_or, IfOk, List, subst, sym, length, Result, Ok, Err, ◌∙◌}
+use Rattle.std.proofs.Common.{◌≡◌, get_or, IfOk, List, subst, sym, Result, Ok, Err, ◌∙◌}
 use Rattle.hys_number.specs.Number.{Number}
 use Rattle.hys_lin.specs.Sums.{at}
-use Rattle.hys_prog.specs.declared.program.ProgItem.{ProgItem}
 use Rattle.hys_prog.specs.declared.stop.StepFault.{StepFault}
-use Rattle.hys_prog.specs.Stops.{Check, Judged, number_of, number_in, checks_of, body_checks}
+use Rattle.hys_prog.specs.Stops.{Check, Judged, number_of, number_in}
 use Rattle.hys_prog.proofs.Walking.{checks_here, first_number}
 use Rattle.hys_prog.proofs.along.settle_name.Goals as goal
 

@@ -1,4 +1,3 @@
-use Rattle.std.proofs.Common.{◌≡◌}
 use Rattle.hys_lin.specs.Sums.{at}
 use Rattle.hys_prog.specs.Steps.{is_state, is_input}
 use Rattle.hys_prog.specs.Stops.{boxes_from}

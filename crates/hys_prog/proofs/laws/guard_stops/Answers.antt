@@ -1,4 +1,4 @@
-use Rattle.hys_prog.proofs.Guards.{edge, edge_value, gap, tolerance, tolerance_value, outside, range}
+use Rattle.hys_prog.proofs.Guards.{edge, edge_value, gap, tolerance, tolerance_value, outside, range, is_program, is_order, valued}
 use Rattle.hys_prog.proofs.laws.guard_stops.Goals as goal
 
 pub returns-clause-edge : goal.returns-clause-edge
@@ -21,3 +21,12 @@ returns-clause-outside c = outside
 
 pub returns-clause-range : goal.returns-clause-range
 returns-clause-range c = range
+
+pub returns-clause-program : goal.returns-clause-program
+returns-clause-program c = is_program
+
+pub returns-clause-order : goal.returns-clause-order
+returns-clause-order c = is_order
+
+pub returns-clause-valued : goal.returns-clause-valued
+returns-clause-valued c = valued

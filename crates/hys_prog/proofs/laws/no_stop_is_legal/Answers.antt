@@ -5,4 +5,4 @@ pub returns-clause-none : goal.returns-clause-none
 returns-clause-none c = none_fails
 
 pub returns-clause-legal : goal.returns-clause-legal
-returns-clause-legal c = legal_exactly
+returns-clause-legal c = λ p o h q x u w v. legal_exactly p o x u w h q v

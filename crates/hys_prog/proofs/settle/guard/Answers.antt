@@ -1,4 +1,4 @@
-use Rattle.std.proofs.Common.{◌≡◌, subst, refl, sym}
+use Rattle.std.proofs.Common.{subst}
 use Rattle.hys_number.specs.Number.{Number}
 use Rattle.hys_lin.specs.Sums.{at, value}
 use Rattle.hys_prog.specs.Stops.{Judged, form_fits, no_gap}

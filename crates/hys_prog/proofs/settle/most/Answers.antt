@@ -1,5 +1,4 @@
 use Rattle.std.proofs.Common.{◌≡◌, subst, Bool, ◌∙◌, ap₂}
-use Rattle.hys_number.specs.Number.{Number}
 use Rattle.hys_number.specs.Ops.{whole}
 use Rattle.hys_lin.specs.Sums.{at, value}
 use Rattle.hys_prog.specs.declared.stop.Stop.TheVariants.{Must}

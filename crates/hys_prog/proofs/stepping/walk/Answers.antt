@@ -1,12 +1,9 @@
-use Rattle.std.proofs.Common.{◌≡◌, ◌∙◌, ◌++◌, ◌+◌, ℕ, List, None, length, ap, subst, sym}
-use Rattle.std.specs.List.{AllByRecursion}
+use Rattle.std.proofs.Common.{◌≡◌, ◌∙◌, ◌++◌, ℕ, List, None, length, ap, subst, sym}
 use Rattle.hys_number.specs.Number.{Number}
-use Rattle.hys_lin.specs.Sums.{at}
 use Rattle.hys_prog.specs.declared.program.ProgItem.{ProgItem}
 use Rattle.hys_prog.specs.declared.program.Name.{Name}
-use Rattle.hys_prog.specs.Steps.{places, is_state, is_output}
-use Rattle.hys_prog.specs.Stops.{Check, Faulted, Judged, first_stop}
-use Rattle.hys_prog.specs.Walk.{IsPlaced, started, given_checks, found_checks, after_checks, exact, found}
+use Rattle.hys_prog.specs.Stops.{Faulted, Judged, first_stop}
+use Rattle.hys_prog.specs.Walk.{started, given_checks, found_checks, after_checks, exact, found}
 use Rattle.hys_prog.proofs.Stopping.{judged_after, fault_before, fault_after}
 use Rattle.hys_prog.proofs.Walking.{started_count}
 use Rattle.hys_prog.proofs.Placing.{order_placed, states_placed, outputs_placed}
