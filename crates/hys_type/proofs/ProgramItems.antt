@@ -14,7 +14,7 @@ use Rattle.hys_meaning.specs.Names.{Name, names, name_of, parameters, look}
 use Rattle.hys_meaning.specs.Bodies.{body}
 use Rattle.hys_meaning.specs.Typed.{DeclaredOnce, Typed, Bounded, HaveValues, DefinedOnce, ItemTyped, LeftTyped, RightTyped, left, suits, defines, is_defined}
 use Rattle.hys_meaning.specs.Unfolded.{Guard, guards, guard_decl, unfolded}
-use Rattle.hys_meaning.specs.Accepted.{KeepsRules}
+use Rattle.hys_type.specs.Rules.{KeepsTyping}
 use Rattle.hys_prog.specs.declared.program.Name.{Name as ProgName}
 use Rattle.hys_prog.specs.declared.program.ProgItem.{ProgItem}
 use Rattle.hys_prog.specs.declared.program.Program.{Program}
@@ -173,6 +173,6 @@ guards_spelled : (gs : List Guard) → AllByRecursion IsSpelled (map guard_decl 
 guards_spelled [] = tt
 guards_spelled (g ∷ gs) = ((refl, inr (record { number = g.number; text_is = refl })), guards_spelled gs)
 
-pub translation_program : (tolerance : Number) (s : Source) (p : Program) → IsTranslation tolerance s p → KeepsRules (unfolded s) → AllByRecursion IsDeclaration s.decls → whole 0 <ₙ tolerance → IsProgram p
+pub translation_program : (tolerance : Number) (s : Source) (p : Program) → IsTranslation tolerance s p → KeepsTyping (unfolded s) → AllByRecursion IsDeclaration s.decls → whole 0 <ₙ tolerance → IsProgram p
 translation_program tolerance s p h r d l = named_program tolerance (unfolded s) p h r.declared r.values r.typed r.bounded r.defined
     (all_append IsSpelled s.decls (map guard_decl (guards s)) (words_spelled s.decls d) (guards_spelled (guards s))) l

@@ -3,7 +3,7 @@
 ghost use Rattle.std.specs.Prelude.{◌≡◌, ◌<◌, ◌↔◌, ℕ, List, [], ◌∷◌, Some, None, true, codes, length};
 ghost use Rattle.std.specs.List.{AllByRecursion};
 ghost use Rattle.hys_number.specs.Ops.{◌<ₙ◌, whole};
-ghost use Rattle.hys_meaning.specs.Accepted.{KeepsRules};
+ghost use Rattle.hys_type.specs.Rules.{KeepsTyping};
 ghost use Rattle.hys_prog.specs.Programs.{IsProgram};
 ghost use Rattle.hys_type.specs.Declaring.{IsDeclaration};
 ghost use Rattle.hys_meaning.specs.Forms.{Form};
@@ -71,10 +71,10 @@ pub fn same_meaning()
         LegalByTexts tolerance (unfolded s) p }
 {}
 
-/// The translation of a source that keeps the rules is a program, where the declarations of the
+/// The translation of a source that keeps the rules of typing is a program, where the declarations of the
 /// source are as they are read from a text and the tolerance is above 0.
 pub fn translations_are_programs()
-    ensures { (tolerance : Number) (s : Source) (p : Program) → IsTranslation tolerance s p → KeepsRules (unfolded s) →
+    ensures { (tolerance : Number) (s : Source) (p : Program) → IsTranslation tolerance s p → KeepsTyping (unfolded s) →
         AllByRecursion IsDeclaration s.decls → whole 0 <ₙ tolerance → IsProgram p }
 {}
 
