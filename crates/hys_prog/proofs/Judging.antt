@@ -158,7 +158,7 @@ input_given Parameter e = absurd (cc)
 input_given Aux e = absurd (cc)
 
 -- ---- demands
-lawful_demand : (w : Assignment) (k : ℕ) (b : Body) → IsLawful (cond (is_must b) (body_checks w k b) []) → DemandOf w b
+pub lawful_demand : (w : Assignment) (k : ℕ) (b : Body) → IsLawful (cond (is_must b) (body_checks w k b) []) → DemandOf w b
 lawful_demand w k (Guard f e) h = tt
 lawful_demand w k (Choice l a b) h = tt
 lawful_demand w k (Logic l) h = tt
@@ -175,7 +175,7 @@ lawful_demands : (w : Assignment) (k : ℕ) (ts : List ProgItem) → IsLawful (d
 lawful_demands w k [] h = tt
 lawful_demands w k (t ∷ ts) h = let r = lawful_parts (cond (is_must t.body) (body_checks w k t.body) []) (demands_from (suc k) w ts) h in (lawful_demand w k t.body r.0, lawful_demands w (suc k) ts r.1)
 
-demand_lawful : (w : Assignment) (k : ℕ) (b : Body) → DemandOf w b → IsLawful (cond (is_must b) (body_checks w k b) [])
+pub demand_lawful : (w : Assignment) (k : ℕ) (b : Body) → DemandOf w b → IsLawful (cond (is_must b) (body_checks w k b) [])
 demand_lawful w k (Guard f e) h = tt
 demand_lawful w k (Choice l a b) h = tt
 demand_lawful w k (Logic l) h = tt
@@ -193,14 +193,14 @@ demands_lawful w k [] h = tt
 demands_lawful w k (t ∷ ts) h = lawful_both (cond (is_must t.body) (body_checks w k t.body) []) (demands_from (suc k) w ts) (demand_lawful w k t.body h.0) (demands_lawful w (suc k) ts h.1)
 
 -- ---- gaps
-gap_shut : (k : ℕ) (e g : Number) → IsLawful (no_gap k e g) → (whole 0 <ₙ g) × (g <ₙ e) → ⊥
+pub gap_shut : (k : ℕ) (e g : Number) → IsLawful (no_gap k e g) → (whole 0 <ₙ g) × (g <ₙ e) → ⊥
 gap_shut k e g h i = go (or_parts (at_most g (whole 0)) (at_most e g) h.0)
   where
     go : (at_most g (whole 0) ≡ true) ⊎ (at_most e g ≡ true) → ⊥
     go (inl m) = lt_irrefl g (lt_of_le-lt g (whole 0) g (most_yes g (whole 0) m) i.0)
     go (inr m) = lt_irrefl g (lt_of_lt-le g e g i.1 (most_yes e g m))
 
-gap_open : (k : ℕ) (e g : Number) → ((whole 0 <ₙ g) × (g <ₙ e) → ⊥) → IsLawful (no_gap k e g)
+pub gap_open : (k : ℕ) (e g : Number) → ((whole 0 <ₙ g) × (g <ₙ e) → ⊥) → IsLawful (no_gap k e g)
 gap_open k e g f = (go (sides g (whole 0)) (sides e g), tt)
   where
     go : ((g ≤ₙ whole 0) × (at_most g (whole 0) ≡ true)) ⊎ ((whole 0 <ₙ g) × (at_most g (whole 0) ≡ false)) → ((e ≤ₙ g) × (at_most e g ≡ true)) ⊎ ((g <ₙ e) × (at_most e g ≡ false)) → at_most g (whole 0) || at_most e g ≡ true

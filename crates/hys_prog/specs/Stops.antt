@@ -129,10 +129,14 @@ abbrev pub checks_along : Assignment → List ProgItem → List ℕ → List Che
 checks_along w items [] = []
 checks_along w items (n ∷ ns) = checks_of w n 0 items ++ checks_along w items ns
 
+-- the checks of a body that demands something
+abbrev pub demand_checks : Assignment → ℕ → Body → List Check
+demand_checks w k b = cond (is_must b) (body_checks w k b) []
+
 -- the checks of the items that demand something, in source order
 abbrev pub demands_from : ℕ → Assignment → List ProgItem → List Check
 demands_from k w [] = []
-demands_from k w (t ∷ ts) = cond (is_must t.body) (body_checks w k t.body) [] ++ demands_from (suc k) w ts
+demands_from k w (t ∷ ts) = demand_checks w k t.body ++ demands_from (suc k) w ts
 
 -- All that may stop a step: the boxes of the states and then of the inputs, the auxiliaries in the order of
 -- definition, the demands, the next values, and the outputs.

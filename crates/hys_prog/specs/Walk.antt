@@ -39,7 +39,8 @@ first_value Aux k a b = whole 0
 abbrev pub started_from : List Name → ℕ → ℕ → List Number → List Number → List Number
 started_from [] i j x u = []
 started_from (k ∷ ks) i j x u =
-    first_value k.role k (at x i) (at u j) ∷ started_from ks (advanced i (is_state k.role)) (advanced j (is_input k.role)) x u
+    first_value k.role k (at x i) (at u j) ∷
+    started_from ks (advanced i (is_state k.role)) (advanced j (is_input k.role)) x u
 
 abbrev pub started : List Name → List Number → List Number → List Number
 started names x u = started_from names 0 0 x u
@@ -83,7 +84,8 @@ after_checks p vs =
 
 abbrev pub walk_checks : Program → Order → List Number → List Number → List Check
 walk_checks p o x u =
-    given_checks p.names (started p.names x u) ++ (found_checks p.items o.names (started p.names x u) ++ after_checks p (exact p o x u))
+    given_checks p.names (started p.names x u) ++
+    (found_checks p.items o.names (started p.names x u) ++ after_checks p (exact p o x u))
 
 -- what a step gives over the values of the names: the auxiliaries', and what the items give to states and outputs
 pub record Gives (p : Program) (w : Assignment) (r : Stepped) : Type 0 where

@@ -1,12 +1,17 @@
 //! What holds of programs, as calls that do nothing.
 
-ghost use Rattle.std.specs.Prelude.{◌≡◌, ◌<◌, [], ◌∷◌, ℕ, List, None, Some};
-ghost use Rattle.hys_number.specs.Ops.{whole};
+ghost use Rattle.std.specs.Prelude.{◌≡◌, ◌<◌, [], ◌∷◌, List, IsTrue, None, Some, ℕ, ◌↔◌};
+ghost use Rattle.hys_number.specs.Number.{Number};
+ghost use Rattle.hys_number.specs.Ops.{whole, ◌<ₙ◌};
 ghost use Rattle.hys_lin.specs.Operations.{plus};
 ghost use Rattle.hys_prog.specs.Programs.{IsProgram};
 ghost use Rattle.hys_prog.specs.Orders.{IsOrder};
 ghost use Rattle.hys_prog.specs.Exactness.{HasAssignments, HasOneAssignment, HasOneStep, IsLegalExactly, PassesExactly};
-ghost use Rattle.hys_prog.specs.Stops.{Check, IsValued, first_stop, number_in, stops};
+ghost use Rattle.hys_prog.specs.Stops.{Check, IsLawful, IsValued, demand_checks, first_stop, in_box, no_gap, number_in, stops};
+ghost use Rattle.hys_lin.specs.Sums.{Assignment};
+ghost use Rattle.hys_prog.specs.Steps.{DemandOf, InBox};
+ghost use Rattle.hys_prog.specs.declared.program.Body.{Body};
+ghost use Rattle.hys_prog.specs.declared.program.Name.{Name};
 ghost use Rattle.hys_prog.specs.declared.program.Program.{Program};
 ghost use Rattle.hys_prog.specs.declared.program.Order.{Order};
 ghost use Rattle.hys_prog.specs.declared.stop.Stop.TheVariants.{Bounds, Gap, Must, Range};
@@ -38,6 +43,15 @@ pub fn one_assignment()
 pub fn no_stop_is_legal()
     ensures none { (cs : List Check) → PassesExactly cs }
     ensures legal { (p : Program) (o : Order) → IsProgram p → IsOrder p o → IsLegalExactly p o }
+{}
+
+/// The checks are those of a legal step: a name's passes exactly where the number is in its box, a
+/// guard's exactly where its number isn't in the gap, and a demand's exactly where it holds, numbers
+/// that don't fit aside.
+pub fn checks_mean()
+    ensures boxed { (k : Name) (a : Number) → IsTrue (in_box k a) ↔ InBox k a }
+    ensures gap { (k : ℕ) (e g : Number) → IsLawful (no_gap k e g) ↔ ¬ ((whole 0 <ₙ g) × (g <ₙ e)) }
+    ensures demand { (w : Assignment) (k : ℕ) (b : Body) → IsLawful (demand_checks w k b) ↔ DemandOf w b }
 {}
 
 /// The guard program is lawful and has an order. Its first stop and its auxiliary at the edge of
