@@ -226,8 +226,8 @@ fn wide_body(
     match item.section {
         Section::Ad => {
             let number = top_number(alloc, scope, whole)?;
-            let eps = read_tolerance(known, item.place, tolerance)?;
-            Ok(Body::Guard { number, eps })
+            let own = read_tolerance(known, item.place, tolerance)?;
+            Ok(Body::Guard { number, eps: own })
         }
         Section::State
         | Section::Input
