@@ -25,3 +25,4 @@ pub mod SparseForms
 pub mod Guards
 pub mod Bodies
 pub mod Weights
+pub mod Beginnings

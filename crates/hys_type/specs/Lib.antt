@@ -13,3 +13,4 @@ pub mod Views
 pub mod Declaring
 pub mod Made
 pub mod Built
+pub mod Begins

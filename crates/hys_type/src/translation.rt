@@ -1,10 +1,11 @@
 //! From a source to its program.
 
-ghost use Rattle.std.specs.Prelude.{◌≤◌, length, map, IfOk};
+ghost use Rattle.std.specs.Prelude.{◌≡◌, ◌≤◌, length, map, IfOk};
 ghost use Rattle.std.specs.List.{AllByRecursion};
 ghost use Rattle.hys_number.specs.Ops.{◌<ₙ◌, whole};
 ghost use Rattle.hys_ast.specs.Seen.{item_of, source_of};
 ghost use Rattle.hys_type.specs.Faults.{Answers};
+ghost use Rattle.hys_type.specs.Begins.{Begins};
 ghost use Rattle.hys_type.specs.Checks.{checks, HasItemLiterals, HasSourceLiterals};
 
 use crate::body::body_of;
@@ -37,6 +38,7 @@ fn guard_name(alloc: Global, number: usize, place: Place) -> Result<Name, AllocE
 }
 
 // The guards that were found in an item, with their names.
+#[tactic(auto, using(crate::proofs::Beginnings::same_begins, crate::proofs::Beginnings::one_begins))]
 fn push_guards(
     alloc: Global,
     declared: usize,
@@ -46,7 +48,8 @@ fn push_guards(
     guards: Vec<Guard>,
 ) -> Result<(), TypeFault>
     requires { declared ≤ length names.old.items }
-    ensures { IfOk result (λ _. declared ≤ length names.new.items) }
+    ensures enough { IfOk result (λ _. declared ≤ length names.new.items) }
+    ensures names { IfOk result (λ _. Begins names.old.items names.new.items) }
 {
     for guard in guards {
         items.push(ProgItem {
@@ -82,7 +85,8 @@ fn push_item(
 ) -> Result<(), TypeFault>
     requires literals { HasItemLiterals (item_of item.now) }
     requires names { length scope.now ≤ length names.old.items }
-    ensures { IfOk result (λ _. length scope.now ≤ length names.new.items) }
+    ensures enough { IfOk result (λ _. length scope.now ≤ length names.new.items) }
+    ensures names { IfOk result (λ _. Begins names.old.items names.new.items) }
 {
     let mut guards = Vec::new(alloc);
     let body = body_of(alloc, scope, known, eps, names.len(), &mut guards, item)?;
@@ -95,6 +99,7 @@ fn push_item(
     Ok(())
 }
 
+#[tactic(auto, using(crate::proofs::Beginnings::same_begins, crate::proofs::Beginnings::both_begin))]
 fn program_items(
     alloc: Global,
     scope: &[Declared],
@@ -105,6 +110,7 @@ fn program_items(
 ) -> Result<Vec<ProgItem>, TypeFault>
     requires literals { AllByRecursion HasItemLiterals (map item_of items.now) }
     requires names { length scope.now ≤ length names.old.items }
+    ensures { IfOk result (λ _. Begins names.old.items names.new.items) }
 {
     let mut made = Vec::new(alloc);
     for item in items {
@@ -116,6 +122,8 @@ fn program_items(
 fn assemble(alloc: Global, source: &Source, eps: Frac, judged: Judged) -> Result<Program, TypeFault>
     requires literals { AllByRecursion HasItemLiterals (map item_of source.now.items) }
     requires names { length judged.scope.items ≤ length judged.names.items }
+    ensures system { IfOk result (λ p. p.system ≡ source.now.system) }
+    ensures names { IfOk result (λ p. Begins judged.names.items p.names) }
 {
     let Judged {
         known,
