@@ -26,3 +26,4 @@ pub mod Guards
 pub mod Bodies
 pub mod Weights
 pub mod Beginnings
+pub mod DeclaredNames

@@ -3,9 +3,11 @@
 ghost use Rattle.std.specs.Prelude.{◌≡◌, ◌≤◌, length, map, IfOk};
 ghost use Rattle.std.specs.List.{AllByRecursion};
 ghost use Rattle.hys_number.specs.Ops.{◌<ₙ◌, whole};
-ghost use Rattle.hys_ast.specs.Seen.{item_of, source_of};
+ghost use Rattle.hys_ast.specs.Seen.{decl_of, item_of, source_of};
 ghost use Rattle.hys_type.specs.Faults.{Answers};
+ghost use Rattle.hys_meaning.specs.Names.{parameters};
 ghost use Rattle.hys_type.specs.Begins.{Begins};
+ghost use Rattle.hys_type.specs.Made.{AreDeclaredFirst};
 ghost use Rattle.hys_type.specs.Checks.{checks, HasItemLiterals, HasSourceLiterals};
 
 use crate::body::body_of;
@@ -145,6 +147,8 @@ pub fn program(alloc: Global, source: &Source, eps: Frac) -> Result<Program, Typ
     requires eps { whole 0 <ₙ eps }
     requires literals { HasSourceLiterals (source_of source.now) }
     ensures fault { Answers result (checks (source_of source.now)) }
+    ensures system { IfOk result (λ p. p.system ≡ source.now.system) }
+    ensures names { IfOk result (λ p. AreDeclaredFirst (parameters (map decl_of source.now.decls)) (map decl_of source.now.decls) p.names) }
 {
     let judged = judge_parts(alloc, source.decls.items(), source.items.items())?;
     match assemble(alloc, source, eps, judged) {
