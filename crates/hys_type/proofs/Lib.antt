@@ -37,3 +37,7 @@ pub mod Unboxed
 pub mod Wholes
 pub mod SparseForms
 pub mod Guards
+pub mod Bodies
+pub mod Weights
+pub mod Beginnings
+pub mod DeclaredNames

@@ -3,13 +3,21 @@ use Rattle.hys_ast.specs.Tree.{Decl}
 use Rattle.hys_prog.specs.declared.program.Name.{Name as ProgName}
 use Rattle.hys_type.specs.Constants.{known_values}
 use Rattle.hys_type.specs.Declarations.{box_of}
-use Rattle.hys_type.specs.Translation.{role_in}
+use Rattle.hys_type.specs.Translation.{role_in, IsNameOf, OneByOne}
 use Rattle.hys_type.specs.declared.constant.Known.{Known}
 use Rattle.hys_type.specs.declared.scope.Declared.{Declared}
-use Rattle.std.specs.Prelude.{List}
+use Rattle.std.specs.Prelude.{◌≡◌, List, ◌++◌}
+use Rattle.hys_meaning.specs.Values.{Assignment}
 
 abbrev pub declared : List Known → Decl → Declared
 declared ks d = record { text = d.name; section = d.section; kind = d.kind; value = known_values ks d.name }
 
 abbrev pub program_name : List Known → Decl → ProgName
 program_name ks d = record { text = d.name; role = role_in d.section; kind = d.kind; place = d.place; bounds = box_of ks d; value = known_values ks d.name }
+
+-- the names of the declarations come first, in their order
+pub record AreDeclaredFirst (w : Assignment) (ds : List Decl) (ns : List ProgName) : Type 0 where
+  pub front : List ProgName
+  pub more : List ProgName
+  pub same : ns ≡ front ++ more
+  pub names : OneByOne (IsNameOf w) ds front
