@@ -7,7 +7,9 @@ ghost use Rattle.hys_ast.specs.Seen.{decl_of, item_of, source_of};
 ghost use Rattle.hys_type.specs.Faults.{Answers};
 ghost use Rattle.hys_meaning.specs.Names.{parameters};
 ghost use Rattle.hys_type.specs.Begins.{Begins};
-ghost use Rattle.hys_type.specs.Made.{AreDeclaredFirst};
+ghost use Rattle.hys_type.specs.Made.{AreDeclaredFirst, guard_program_name};
+ghost use Rattle.hys_type.specs.Operands.{seen};
+ghost use Rattle.hys_type.specs.Translation.{place_if};
 ghost use Rattle.hys_type.specs.Checks.{checks, HasItemLiterals, HasSourceLiterals};
 
 use crate::body::body_of;
@@ -25,7 +27,9 @@ use hys_prog::{Body, Name, NameId, ProgItem, Program, Role};
 use std::alloc::{AllocError, Global};
 
 // The name of an unnamed guard.
-fn guard_name(alloc: Global, number: usize, place: Place) -> Result<Name, AllocError> {
+fn guard_name(alloc: Global, number: usize, place: Place) -> Result<Name, AllocError>
+    ensures { IfOk result (λ n. n ≡ guard_program_name number place) }
+{
     Ok(Name {
         text: Text::of(format!(in alloc; "@{number}")?),
         role: Role::Aux,
@@ -68,7 +72,10 @@ fn push_guards(
     Ok(())
 }
 
-fn left_place(scope: &[Declared], left: &Option<Text>) -> Result<Option<NameId>, TypeFault> {
+// The place of the left name.
+fn left_place(scope: &[Declared], left: &Option<Text>) -> Result<Option<NameId>, TypeFault>
+    ensures { IfOk result (λ o. o ≡ place_if (map seen scope.now) left.now) }
+{
     match left {
         None => Ok(None),
         Some(name) => Ok(Some(column_at(place_in(scope, name))?)),
