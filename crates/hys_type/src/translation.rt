@@ -1,11 +1,13 @@
 //! From a source to its program.
 
-ghost use Rattle.std.specs.Prelude.{◌≡◌, ◌≤◌, length, map, IfOk};
-ghost use Rattle.std.specs.List.{AllByRecursion};
+ghost use Rattle.std.specs.Prelude.{◌≡◌, ◌+◌, ◌≤◌, length, map, IfOk};
+ghost use Rattle.std.specs.List.{AllByRecursion, sum_by};
 ghost use Rattle.hys_number.specs.Ops.{◌<ₙ◌, whole};
 ghost use Rattle.hys_ast.specs.Seen.{decl_of, item_of, source_of};
 ghost use Rattle.hys_type.specs.Faults.{Answers};
 ghost use Rattle.hys_meaning.specs.Names.{parameters};
+ghost use Rattle.hys_meaning.specs.Weight.{item_weight};
+ghost use Rattle.hys_prog.specs.Programs.{names_weight};
 ghost use Rattle.hys_type.specs.Begins.{Begins};
 ghost use Rattle.hys_type.specs.Made.{AreDeclaredFirst, guard_program_name};
 ghost use Rattle.hys_type.specs.Operands.{seen};
@@ -133,6 +135,7 @@ fn assemble(alloc: Global, source: &Source, eps: Frac, judged: Judged) -> Result
     requires names { length judged.scope.items ≤ length judged.names.items }
     ensures system { IfOk result (λ p. p.system ≡ source.now.system) }
     ensures names { IfOk result (λ p. Begins judged.names.items p.names) }
+    ensures weight { IfOk result (λ p. p.weight ≡ names_weight p.names + sum_by item_weight (map item_of source.now.items)) }
 {
     let Judged {
         known,
@@ -155,6 +158,7 @@ pub fn program(alloc: Global, source: &Source, eps: Frac) -> Result<Program, Typ
     requires literals { HasSourceLiterals (source_of source.now) }
     ensures fault { Answers result (checks (source_of source.now)) }
     ensures system { IfOk result (λ p. p.system ≡ source.now.system) }
+    ensures weight { IfOk result (λ p. p.weight ≡ names_weight p.names + sum_by item_weight (map item_of source.now.items)) }
     ensures names { IfOk result (λ p. AreDeclaredFirst (parameters (map decl_of source.now.decls)) (map decl_of source.now.decls) p.names) }
 {
     let judged = judge_parts(alloc, source.decls.items(), source.items.items())?;
