@@ -1,5 +1,5 @@
 -- Lists that begin with another.
-use Rattle.std.proofs.Common.{◌≡◌, List, [], ◌∷◌, ◌++◌, sym, ◌∙◌, ap, append_assoc, append-nil, subst}
+use Rattle.std.proofs.Common.{◌≡◌, List, [], ◌∷◌, ◌++◌, sym, ◌∙◌, ap, append_assoc, append-nil}
 use Rattle.hys_type.specs.Begins.{Begins}
 
 pub same_begins : {A : Type 0} (xs : List A) → Begins xs xs

@@ -1,5 +1,5 @@
 -- The names of declarations in a program.
-use Rattle.std.proofs.Common.{◌≡◌, List, [], ◌∷◌, ◌++◌, None, true, map, refl, ap, sym, ◌∙◌}
+use Rattle.std.proofs.Common.{◌≡◌, List, [], ◌∷◌, ◌++◌, None, true, map, refl, ap, ◌∙◌}
 use Rattle.hys_ast.specs.Tree.{Decl, Item}
 use Rattle.hys_meaning.specs.Names.{parameters}
 use Rattle.hys_meaning.specs.Typed.{differ}

@@ -1,3 +1,12 @@
+-- Notes on how this crate is proved: forms that worked, and traps.
+-- - Checks are lists: `fault_after` and `fault_before` (Firsts) are all that `first_fault (xs ++ ys)` needs; where memory may be wanting, `handed` with
+--   `fault_first` or `fault_behind` at a `?`, and `answers_behind` at the end (Operators). Loops keep `first_from view f xs 0 ≡ first_from view f xs i` (Walks).
+-- - `from_residual.ensures` is a pair; `failed` and `handed` turn it. Boxed operands: `rw (c.in-Binary.is, sym c.deref-in-Binary.ensures, ..)`.
+-- - A case of an `or` pattern says nothing of the value: put a test or a single pattern before it. A choice of `Option Kind`, of a shape, of a section: a function each.
+-- - The scope's names have no boxes, and the checks don't ask for them: `same_item` (Unboxed) carries the faults over to `names s`.
+-- - Judge first: errors while a program is built come only of memory, so what is built needs no `requires` but its literals.
+-- - Lists that grow through `&mut` say `Begins old new` or `AreFollowed`, an existential record with one lemma for each composition.
+-- - Trap: a `match` on a tuple of two `Copy` enums that hold `Frac` stops the prover: nest them. A file of proofs/ may not differ from one of src/ in case only.
 -- Notes on the laws of translations.
 -- - `Agree` says that an assignment to texts and one to places give each declared name the same number. Every lemma on
 --   forms, formulas, bodies and items takes an `Agree` and gives `↔`, so one proof serves both directions and both views.

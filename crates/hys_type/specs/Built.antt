@@ -54,7 +54,8 @@ built ns k (tree.Name n p) = name_formula ns n (look ns n)
 built ns k (tree.Truth b p) = constant b
 built ns k (tree.Cast n p) = constant false
 built ns k (tree.Unary op a p) = signed_by op (built ns k a)
-built ns k (tree.Binary op a b p) = cond (is_inequality op) (named k) (joined_by (connective_of op) (built ns k a) (built ns (k + length (comparisons a)) b))
+built ns k (tree.Binary op a b p) =
+    cond (is_inequality op) (named k) (joined_by (connective_of op) (built ns k a) (built ns (k + length (comparisons a)) b))
 
 abbrev pub IsGuardOf : List Name → Tree → Guard → Type 0
 IsGuardOf ns e g = (g.place ≡ place_of e) × IsFormOf ns (guard_form ns e) g.number

@@ -1,13 +1,17 @@
 //! From a source to its program.
 
-ghost use Rattle.std.specs.Prelude.{◌≡◌, ◌≤◌, length, map, IfOk};
-ghost use Rattle.std.specs.List.{AllByRecursion};
+ghost use Rattle.std.specs.Prelude.{◌≡◌, ◌+◌, ◌≤◌, length, map, IfOk};
+ghost use Rattle.std.specs.List.{AllByRecursion, sum_by};
 ghost use Rattle.hys_number.specs.Ops.{◌<ₙ◌, whole};
 ghost use Rattle.hys_ast.specs.Seen.{decl_of, item_of, source_of};
 ghost use Rattle.hys_type.specs.Faults.{Answers};
 ghost use Rattle.hys_meaning.specs.Names.{parameters};
+ghost use Rattle.hys_meaning.specs.Weight.{item_weight};
+ghost use Rattle.hys_prog.specs.Programs.{names_weight};
 ghost use Rattle.hys_type.specs.Begins.{Begins};
-ghost use Rattle.hys_type.specs.Made.{AreDeclaredFirst};
+ghost use Rattle.hys_type.specs.Made.{AreDeclaredFirst, guard_program_name};
+ghost use Rattle.hys_type.specs.Operands.{seen};
+ghost use Rattle.hys_type.specs.Translation.{place_if};
 ghost use Rattle.hys_type.specs.Checks.{checks, HasItemLiterals, HasSourceLiterals};
 
 use crate::body::body_of;
@@ -25,7 +29,9 @@ use hys_prog::{Body, Name, NameId, ProgItem, Program, Role};
 use std::alloc::{AllocError, Global};
 
 // The name of an unnamed guard.
-fn guard_name(alloc: Global, number: usize, place: Place) -> Result<Name, AllocError> {
+fn guard_name(alloc: Global, number: usize, place: Place) -> Result<Name, AllocError>
+    ensures { IfOk result (λ n. n ≡ guard_program_name number place) }
+{
     Ok(Name {
         text: Text::of(format!(in alloc; "@{number}")?),
         role: Role::Aux,
@@ -68,7 +74,10 @@ fn push_guards(
     Ok(())
 }
 
-fn left_place(scope: &[Declared], left: &Option<Text>) -> Result<Option<NameId>, TypeFault> {
+// The place of the left name.
+fn left_place(scope: &[Declared], left: &Option<Text>) -> Result<Option<NameId>, TypeFault>
+    ensures { IfOk result (λ o. o ≡ place_if (map seen scope.now) left.now) }
+{
     match left {
         None => Ok(None),
         Some(name) => Ok(Some(column_at(place_in(scope, name))?)),
@@ -126,6 +135,7 @@ fn assemble(alloc: Global, source: &Source, eps: Frac, judged: Judged) -> Result
     requires names { length judged.scope.items ≤ length judged.names.items }
     ensures system { IfOk result (λ p. p.system ≡ source.now.system) }
     ensures names { IfOk result (λ p. Begins judged.names.items p.names) }
+    ensures weight { IfOk result (λ p. p.weight ≡ names_weight p.names + sum_by item_weight (map item_of source.now.items)) }
 {
     let Judged {
         known,
@@ -148,6 +158,7 @@ pub fn program(alloc: Global, source: &Source, eps: Frac) -> Result<Program, Typ
     requires literals { HasSourceLiterals (source_of source.now) }
     ensures fault { Answers result (checks (source_of source.now)) }
     ensures system { IfOk result (λ p. p.system ≡ source.now.system) }
+    ensures weight { IfOk result (λ p. p.weight ≡ names_weight p.names + sum_by item_weight (map item_of source.now.items)) }
     ensures names { IfOk result (λ p. AreDeclaredFirst (parameters (map decl_of source.now.decls)) (map decl_of source.now.decls) p.names) }
 {
     let judged = judge_parts(alloc, source.decls.items(), source.items.items())?;

@@ -1,6 +1,6 @@
 //! The weight of a program.
 
-ghost use Rattle.std.specs.Prelude.{◌≡◌, ◌+◌, IfOk};
+ghost use Rattle.std.specs.Prelude.{◌≡◌, ◌+◌, map, IfOk};
 ghost use Rattle.std.specs.List.{sum_by};
 ghost use Rattle.hys_ast.specs.Nodes.{shape_expressions};
 ghost use Rattle.hys_ast.specs.Seen.{tree_of, item_of, shape_of};
@@ -92,7 +92,10 @@ fn columns(names: &[Name]) -> Result<u32, TypeFault>
 }
 
 /// The weight of a program of these names, from these items.
-pub fn weigh(names: &[Name], items: &[Item]) -> Result<u32, TypeFault> {
+#[tactic(auto, using(crate::proofs::Weights::item_here, crate::proofs::Weights::items_end))]
+pub fn weigh(names: &[Name], items: &[Item]) -> Result<u32, TypeFault>
+    ensures { IfOk result (λ n. n ≡ names_weight names.now + sum_by item_weight (map item_of items.now)) }
+{
     let mut weight = columns(names)?;
     for item in items {
         weight = add(weight, item_weight(item)?)?;

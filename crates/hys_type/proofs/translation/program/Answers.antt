@@ -1,4 +1,4 @@
-use Rattle.std.proofs.Common.{List, map, ap, ap₂, sym, ◌∙◌, subst}
+use Rattle.std.proofs.Common.{List, map, ap₂, ◌∙◌, subst}
 use Rattle.hys_ast.specs.declared.source.Decl.{Decl}
 use Rattle.hys_ast.specs.declared.source.Item.{Item}
 use Rattle.hys_ast.specs.Seen.{decl_of, item_of, source_of}
