@@ -77,7 +77,7 @@ pub fn conclude_compile<F: Files>(
 ) -> Result<Outcome, AllocError>
     ensures reached { IfOk result (λ o.
         IsReached (IsCompileOutcome (F.held files.old) source.now target.now) o (F.read_faults files.old)
-            (F.read_faults files.new)) }
+        (F.read_faults files.new)) }
     ensures reads { F.read_faults files.old ≤ F.read_faults files.new }
     ensures held { F.held files.new ≡ F.held files.old }
     ensures puts { F.put_faults files.new ≡ F.put_faults files.old }

@@ -32,7 +32,7 @@ fn conclude<F: Files>(alloc: Global, words: &[String], files: &mut F) -> Result<
     ensures unread { form_of (map string_bytes words.now) ≡ None → F.read_faults files.new ≡ F.read_faults files.old }
     ensures compile { (source target : List ℕ) → form_of (map string_bytes words.now) ≡ Some (source, target) →
         IfOk result (λ o. IsReached (IsCompileOutcome (F.held files.old) source target) o
-            (F.read_faults files.old) (F.read_faults files.new)) }
+        (F.read_faults files.old) (F.read_faults files.new)) }
     ensures reads { F.read_faults files.old ≤ F.read_faults files.new }
     ensures held { F.held files.new ≡ F.held files.old }
     ensures puts { F.put_faults files.new ≡ F.put_faults files.old }

@@ -105,9 +105,9 @@ pub fn intervals()
         ¬ (IsOrder in_turn (codes "far" ∷ codes "near" ∷ [])) }
     ensures numbers { range_numbers in_turn (codes "near" ∷ codes "far" ∷ [])
         ≡ all_at (place 115 4 1) (times (whole 1) (whole 0) ∷ plus (whole 1) (whole 0) ∷
-            times (whole 1) (whole 10) ∷ plus (whole 1) (whole 10) ∷ [])
+        times (whole 1) (whole 10) ∷ plus (whole 1) (whole 10) ∷ [])
         ++ all_at (place 101 3 1) (times (whole 2) (whole 1) ∷ plus (whole 0) (whole 2) ∷
-            times (whole 2) (whole 11) ∷ plus (whole 0) (whole 22) ∷ []) }
+        times (whole 2) (whole 11) ∷ plus (whole 0) (whole 22) ∷ []) }
     ensures fits { Fits tolerance in_turn }
 {}
 
@@ -165,14 +165,14 @@ pub fn of_a_choice()
     ensures numbers { row_numbers tolerance switched (codes "z" ∷ [])
         ≡ all_at somewhere (minus (whole 0) (whole 20) ∷ minus (whole 0) (whole 0) ∷ [])
         ++ (all_at somewhere (times (neg (whole 20)) (whole 1) ∷ minus (neg (whole 20)) (whole 0) ∷
-            times (neg (whole 20)) (whole 0) ∷ minus (whole 0) (whole 0) ∷ [])
+        times (neg (whole 20)) (whole 0) ∷ minus (whole 0) (whole 0) ∷ [])
         ++ (all_at somewhere (times (whole 0) (whole 1) ∷ plus (whole 0) (whole 0) ∷ times (whole 0) (whole 0) ∷
-            minus (whole 0) (whole 0) ∷ [])
+        minus (whole 0) (whole 0) ∷ [])
         ++ (all_at somewhere (minus (whole 1) (whole 0) ∷ [])
         ++ (all_at somewhere (times (whole 0) (neg (whole 1)) ∷ minus (whole 0) (whole 0) ∷
-            times (whole 0) (whole 1) ∷ minus (whole 0) (whole 0) ∷ [])
+        times (whole 0) (whole 1) ∷ minus (whole 0) (whole 0) ∷ [])
         ++ all_at somewhere (times (neg (whole 20)) (neg (whole 1)) ∷ plus (whole 20) (whole 0) ∷
-            times (neg (whole 20)) (whole 1) ∷ minus (whole 0) (neg (whole 20)) ∷ []))))) }
+        times (neg (whole 20)) (whole 1) ∷ minus (whole 0) (neg (whole 20)) ∷ []))))) }
 {}
 
 /// The numbers of the rows of `z = { IF ~a THEN x + (REAL a) ELSE 1 }`. The literal is 1 - a, and x + a
@@ -181,14 +181,14 @@ pub fn of_a_negated_condition()
     ensures numbers { row_numbers tolerance mixed (codes "z" ∷ [])
         ≡ all_at somewhere (minus (whole 1) (whole 11) ∷ minus (whole 0) (whole 1) ∷ [])
         ++ (all_at somewhere (times (neg (whole 10)) (neg (whole 1)) ∷ minus (whole 10) (whole 0) ∷
-            times (neg (whole 10)) (whole 1) ∷ minus (whole 1) (neg (whole 10)) ∷ [])
+        times (neg (whole 10)) (whole 1) ∷ minus (whole 1) (neg (whole 10)) ∷ [])
         ++ (all_at somewhere (times (neg (whole 1)) (neg (whole 1)) ∷ plus (whole 1) (whole 0) ∷
-            times (neg (whole 1)) (whole 1) ∷ minus (neg (whole 1)) (neg (whole 1)) ∷ [])
+        times (neg (whole 1)) (whole 1) ∷ minus (neg (whole 1)) (neg (whole 1)) ∷ [])
         ++ (all_at somewhere (minus (whole 1) (whole 1) ∷ [])
         ++ (all_at somewhere (times (neg (whole 1)) (whole 1) ∷ minus (neg (whole 1)) (whole 1) ∷
-            times (neg (whole 1)) (whole 0) ∷ minus (whole 0) (whole 0) ∷ [])
+        times (neg (whole 1)) (whole 0) ∷ minus (whole 0) (whole 0) ∷ [])
         ++ all_at somewhere (times (neg (whole 10)) (whole 1) ∷ plus (neg (whole 10)) (whole 1) ∷
-            times (neg (whole 10)) (whole 0) ∷ minus (whole 0) (whole 0) ∷ []))))) }
+        times (neg (whole 10)) (whole 0) ∷ minus (whole 0) (whole 0) ∷ []))))) }
 {}
 
 /// The numbers of the rows of `z = { IF p THEN x }`, where p is a parameter that is true: the literal
@@ -197,10 +197,10 @@ pub fn of_a_decided_condition()
     ensures numbers { row_numbers tolerance decided (codes "z" ∷ [])
         ≡ all_at somewhere (minus (whole 0) (whole 10) ∷ minus (whole 0) (whole 0) ∷ [])
         ++ (all_at somewhere (times (neg (whole 10)) (whole 1) ∷ minus (whole 0) (neg (whole 10)) ∷
-            times (whole 0) (whole 1) ∷ minus (whole 0) (whole 0) ∷ [])
+        times (whole 0) (whole 1) ∷ minus (whole 0) (whole 0) ∷ [])
         ++ (all_at somewhere (minus (whole 1) (whole 1) ∷ [])
         ++ all_at somewhere (times (whole 0) (whole 0) ∷ minus (whole 0) (whole 0) ∷
-            times (neg (whole 10)) (whole 0) ∷ minus (whole 0) (whole 0) ∷ []))) }
+        times (neg (whole 10)) (whole 0) ∷ minus (whole 0) (whole 0) ∷ []))) }
 {}
 
 /// The columns of the thermostat, of whose formula `&` has the first fresh one and `|` the second.

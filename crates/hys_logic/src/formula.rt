@@ -65,7 +65,7 @@ fn add_rows(
     requires room { next + connectives (tree_of formula.now) ≤ 2 ^ 32 }
     ensures literal { IfOk result (λ m. m.literal ≡ literal_of (column_in columns.now) next (tree_of formula.now)) }
     ensures next { IfOk result (λ m. m.next ≡ next + connectives (tree_of formula.now)) }
-    ensures added { IfOk result (λ _. 
+    ensures added { IfOk result (λ _.
         AddsFormula columns.now next (tree_of formula.now) rows.old.items rows.new.items) }
 {
     match formula {

@@ -66,9 +66,9 @@ pub fn next_values(
     requires plain { IsPlainTree (source_of source.now) }
     requires states { names_of states.now ≡ texts is_state (names (source_of source.now)) }
     requires inputs { names_of inputs.now ≡ texts is_input (names (source_of source.now)) }
-    ensures next { IfOk result (λ v. 
+    ensures next { IfOk result (λ v.
         AreNext (source_of source.now) (texts is_state (names (source_of source.now))) v.items) }
-    ensures over { IfOk result (λ v. 
+    ensures over { IfOk result (λ v.
         All (λ f. AreTermsOver (length (columns (names (source_of source.now)))) f.terms) v.items) }
 {
     let mut found = Vec::new(alloc);

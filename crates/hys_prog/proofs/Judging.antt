@@ -364,6 +364,18 @@ legal_lawful p o x u w x' y h l =
     (lawful_both must (next ++ out) (demands_lawful w 0 p.items l.demands)
     (lawful_both next out (each_lawful p w (places is_state p) h g) (each_lawful p w (places is_output p) h g)))))
 
+pub given_step : (p : Program) (x u : List Number) (w : Assignment) → IsProgram p → IsValued p x u w → Step p x u w (numbers_in w p.items (places is_state p)) (numbers_in w p.items (places is_output p))
+given_step p x u w h v = record {
+  parameters = v.parameters;
+  states = v.states;
+  inputs = v.inputs;
+  cases = v.cases;
+  after = after_of p w;
+  next = all_next p w h;
+  end = mapped p w (places is_state p);
+  outputs = mapped p w (places is_output p);
+}
+
 -- ---- what the walk gives
 pub judged_stops : (p : Program) (o : Order) (x u : List Number) (r : Result Stepped StepFault) → IsProgram p → IsOrder p o → Judged (walk_checks p o x u) r → (w : Assignment) → IsValued p x u w → Judged (stops p o w) r
 judged_stops p o x u r h q j w v = subst (λ (cs : List Check). Judged cs r) (walk_stops p o x u w h q v) j

@@ -42,6 +42,16 @@ IsLegalExactly p o =
     (x u : List Number) (w : Assignment) → IsValued p x u w →
     IsLawful (stops p o w) ↔ Legal p x u w (next_of p w) (outputs_of p w)
 
+-- the numbers that the items give are those of a step
+abbrev pub StepsAsGiven : Program → Type 0
+StepsAsGiven p = (x u : List Number) (w : Assignment) → IsValued p x u w → Step p x u w (next_of p w) (outputs_of p w)
+
+-- a legal step has the numbers that its items give, and no check of boxes, gaps and demands fails
+abbrev pub PassesWhereLegal : Program → Order → Type 0
+PassesWhereLegal p o =
+    (x u : List Number) (w : Assignment) (x' y : List Number) → Legal p x u w x' y →
+    IsLawful (stops p o w) × (x' ≡ next_of p w) × (y ≡ outputs_of p w)
+
 -- no check fails exactly where those of boxes, gaps and demands pass and all numbers fit
 abbrev pub PassesExactly : List Check → Type 0
 PassesExactly cs = (first_stop cs ≡ None) ↔ (IsLawful cs × AllFit cs)

@@ -6,7 +6,7 @@ ghost use Rattle.hys_number.specs.Ops.{whole, ◌<ₙ◌};
 ghost use Rattle.hys_lin.specs.Operations.{plus};
 ghost use Rattle.hys_prog.specs.Programs.{IsProgram};
 ghost use Rattle.hys_prog.specs.Orders.{IsOrder};
-ghost use Rattle.hys_prog.specs.Exactness.{HasAssignments, HasOneAssignment, HasOneStep, IsLegalExactly, PassesExactly};
+ghost use Rattle.hys_prog.specs.Exactness.{HasAssignments, HasOneAssignment, HasOneStep, IsLegalExactly, PassesExactly, PassesWhereLegal, StepsAsGiven};
 ghost use Rattle.hys_prog.specs.Stops.{Check, IsLawful, IsValued, demand_checks, first_stop, in_box, no_gap, number_in, stops};
 ghost use Rattle.hys_lin.specs.Sums.{Assignment};
 ghost use Rattle.hys_prog.specs.Steps.{DemandOf, InBox};
@@ -39,10 +39,12 @@ pub fn one_assignment()
 
 /// No check fails exactly where those of boxes, gaps and demands pass and all numbers fit. The
 /// former do exactly where the assignment is a legal step with the next values and the outputs that
-/// the items give.
+/// the items give; every legal step has these.
 pub fn no_stop_is_legal()
     ensures none { (cs : List Check) → PassesExactly cs }
     ensures legal { (p : Program) (o : Order) → IsProgram p → IsOrder p o → IsLegalExactly p o }
+    ensures passes { (p : Program) (o : Order) → IsProgram p → PassesWhereLegal p o }
+    ensures step { (p : Program) → IsProgram p → StepsAsGiven p }
 {}
 
 /// The checks are those of a legal step: a name's passes exactly where the number is in its box, a
