@@ -35,3 +35,5 @@ pub mod Unboxed
 pub mod Wholes
 pub mod SparseForms
 pub mod Guards
+pub mod Bodies
+pub mod Weights

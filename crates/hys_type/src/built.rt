@@ -222,6 +222,7 @@ fn joined(alloc: Global, op: BinaryOp, left: Formula, right: Formula) -> Result<
 fn name_guard(
     alloc: Global,
     scope: &[Declared],
+    first: usize,
     guards: &mut Vec<Guard>,
     op: BinaryOp,
     left: &Expr,
@@ -231,11 +232,11 @@ fn name_guard(
     requires op { is_inequality op ≡ true }
     requires left { HasLiterals (tree_of left.now) }
     requires right { HasLiterals (tree_of right.now) }
-    ensures formula { IfOk result (λ l. formula_of l ≡ formulas.named (length scope.now + length guards.old.items)) }
+    ensures formula { IfOk result (λ l. formula_of l ≡ formulas.named (first + length guards.old.items)) }
     ensures guards { IfOk result (λ _. AreFollowed (map seen scope.now) guards.old.items (tree.Binary op (tree_of left.now) (tree_of right.now) place ∷ []) guards.new.items) }
 {
     let number = guard_number(alloc, scope, op, left, right, place)?;
-    let name = column_at(scope.len())?
+    let name = column_at(first)?
         .checked_add(column_at(guards.len())?)
         .ok_or(TypeFault::Limit)?;
     guards.push(Guard { number, place })?;
@@ -247,11 +248,12 @@ fn name_guard(
 pub fn formula(
     alloc: Global,
     scope: &[Declared],
+    first: usize,
     guards: &mut Vec<Guard>,
     whole: &Expr,
 ) -> Result<Formula, TypeFault>
     requires { HasLiterals (tree_of whole.now) }
-    ensures formula { IfOk result (λ l. formula_of l ≡ built (map seen scope.now) (length scope.now + length guards.old.items) (tree_of whole.now)) }
+    ensures formula { IfOk result (λ l. formula_of l ≡ built (map seen scope.now) (first + length guards.old.items) (tree_of whole.now)) }
     ensures guards { IfOk result (λ _. AreFollowed (map seen scope.now) guards.old.items (comparisons (tree_of whole.now)) guards.new.items) }
 {
     match whole {
@@ -259,15 +261,15 @@ pub fn formula(
         Expr::Name(name, _) => name_formula(scope, name),
         Expr::Number(_, _) | Expr::Cast(_, _) => Ok(Formula::Const(false)),
         Expr::Unary(op, operand, _) => {
-            let operand = formula(alloc, scope, guards, operand)?;
+            let operand = formula(alloc, scope, first, guards, operand)?;
             signed(alloc, *op, operand)
         }
         Expr::Binary(op, left, right, place) => {
             if is_inequality(*op) {
-                return name_guard(alloc, scope, guards, *op, left, right, *place);
+                return name_guard(alloc, scope, first, guards, *op, left, right, *place);
             }
-            let left = formula(alloc, scope, guards, left)?;
-            let right = formula(alloc, scope, guards, right)?;
+            let left = formula(alloc, scope, first, guards, left)?;
+            let right = formula(alloc, scope, first, guards, right)?;
             joined(alloc, *op, left, right)
         }
     }

@@ -1,6 +1,7 @@
 //! From the tree of a source to its program: names, kinds, constants and affine forms.
 #![tactic(auto)]
 
+mod body;
 mod bounds;
 mod built;
 mod constant;
@@ -17,8 +18,11 @@ mod node;
 mod parameters;
 mod right;
 mod scope;
+mod translation;
+mod weight;
 
-pub use built::{Guard, affine, difference, guard_number, sparse};
+pub use body::body_of;
+pub use built::{Guard, affine, difference, formula, guard_number, sparse};
 pub use constant::{Constant, Known, evaluate};
 pub use declared::check_names;
 pub use dense::{Dense, fold, is_constant, spread};
@@ -31,3 +35,4 @@ pub use names::{declared_names, scope_of};
 pub use node::{Node, folded};
 pub use parameters::known_names;
 pub use scope::{Declared, look};
+pub use translation::program;
