@@ -8,8 +8,8 @@ use Rattle.hys_frac.specs.Compare.{number_cmp}
 use Rattle.hys_lin.specs.declared.form.Affine.{Affine}
 use Rattle.hys_lin.specs.declared.form.Interval.{Interval}
 use Rattle.hys_lin.specs.declared.lost.Lost.{Lost}
-use Rattle.hys_lin.specs.Operations.{summing, outcome}
-use Rattle.hys_lin.specs.Ranges.{end_at, end_of}
+use Rattle.hys_lin.specs.Operations.{outcome}
+use Rattle.hys_lin.specs.Ranges.{end_of, ranging}
 use Rattle.hys_lin.specs.Sums.{EachColumn}
 use Rattle.hys_prog.specs.declared.program.Name.{Name}
 use Rattle.hys_prog.specs.declared.program.Role.{Role}
@@ -24,10 +24,6 @@ use Rattle.hys_prog.specs.Programs.{is_named}
 -- ---- the range of a form
 abbrev pub range : List Interval → Affine → Interval
 range boxes f = record { low = end_of false f boxes; high = end_of true f boxes }
-
--- the operations of the low end, then those of the high end, each from the constant
-abbrev pub ranging : List Interval → Affine → List Lost
-ranging boxes f = summing f.constant f.terms (end_at false boxes) ++ summing f.constant f.terms (end_at true boxes)
 
 -- ---- the interval of an auxiliary
 abbrev pub least : Number → Number → Number

@@ -2,7 +2,8 @@ ghost use Rattle.std.specs.Prelude.{◌≡◌, ◌<◌, ◌++◌, IfOk, length};
 ghost use Rattle.std.specs.Result.{result_err};
 ghost use Rattle.hys_lin.specs.Operations.{first_lost};
 ghost use Rattle.hys_lin.specs.Sums.{EachColumn};
-ghost use Rattle.hys_bound.specs.Ranges.{defined_interval, asked, EachAsked, range, ranging, hull as hull_of, unit as unit_interval};
+ghost use Rattle.hys_lin.specs.Ranges.{ranging};
+ghost use Rattle.hys_bound.specs.Ranges.{defined_interval, asked, EachAsked, range, hull as hull_of, unit as unit_interval};
 
 use hys_frac::Frac;
 use hys_lin::{Affine, Interval, Lost, range_of};

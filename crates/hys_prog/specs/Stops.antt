@@ -6,7 +6,7 @@ use Rattle.hys_number.specs.Ops.{whole, fits}
 use Rattle.hys_frac.specs.Compare.{number_cmp, parts_eq}
 use Rattle.hys_lin.specs.Bits.{bit, is_one}
 use Rattle.hys_lin.specs.Sums.{Assignment, value}
-use Rattle.hys_lin.specs.Operations.{summing, outcome}
+use Rattle.hys_lin.specs.Operations.{valuing, outcome}
 use Rattle.hys_lin.specs.declared.form.Affine.{Affine}
 use Rattle.hys_lin.specs.declared.lost.Lost.{Lost}
 use Rattle.hys_ast.specs.declared.source.Kind.{Kind}
@@ -55,7 +55,7 @@ in_box k a = at_most k.bounds.low a && at_most a k.bounds.high && of_kind k.kind
 -- ---- what a body asks for
 -- the products and partial sums of a form's value, from the constant
 abbrev pub evaluating : Assignment → Affine → List Lost
-evaluating w f = summing f.constant f.terms (λ t. w t.column)
+evaluating w f = valuing f w
 
 -- the number that a body gives its name, or that it demands something of; of a guard the truth of its comparison
 abbrev pub number_of : Assignment → Body → Number

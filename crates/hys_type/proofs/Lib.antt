@@ -31,6 +31,8 @@ pub mod ProgramBodies
 pub mod ProgramWeight
 pub mod ProgramItems
 pub mod SmallTranslation
+pub mod Mentions
+pub mod SameCircles
 pub mod Unboxed
 pub mod Wholes
 pub mod SparseForms

@@ -32,6 +32,7 @@ use Rattle.hys_formula.specs.Formulas.{EachName, FormulaTree, constant, named}
 use Rattle.hys_prog.specs.declared.program.Name.{Name as ProgName}
 use Rattle.hys_prog.specs.Programs.{NameAt, IsVariable, IsBooleanVariable, FormOver, FormulaOver, has_column}
 use Rattle.hys_type.specs.Translation.{place_in, role_in, IsNameOf, OneByOne, HaveFactors, IsFormOf, IsFormulaOf, else_form, difference_form, formula, name_formula, signed_by, joined_by, connective_of}
+use Rattle.hys_prog.proofs.Names.{name_map}
 use Rattle.hys_type.proofs.KnownValues.{same_text, own_text, other_text}
 use Rattle.hys_type.proofs.Agree.{texts_of, some_name}
 use Rattle.hys_type.proofs.FormPlaces.{own_column, other_column}
@@ -51,11 +52,6 @@ stands_at u (d ∷ ds) (x ∷ xs) h n m e = go (bytes_eq d.name n) e (stands_at 
         NameAt (x ∷ xs) (cond b 0 (suc (place_in (map (name_of u) ds) n))) (Stands m)
     go true e f = subst (λ m. Stands m x) (some_name (name_of u d) m e) (record { role = h.0.role; kind = h.0.kind })
     go false e f = f e
-
-pub at_name : (P Q : ProgName → Type 0) → ((x : ProgName) → P x → Q x) → (xs : List ProgName) (n : ℕ) → NameAt xs n P → NameAt xs n Q
-at_name P Q f [] n h = absurd h
-at_name P Q f (x ∷ xs) zero h = f x h
-at_name P Q f (x ∷ xs) (suc n) h = at_name P Q f xs n h
 
 look_later : (x : Name) (ns : List Name) (ms : List Name) → Apart x.text (texts_of ms) → AllByRecursion (λ n. look ns n.text ≡ Some n) ms → AllByRecursion (λ n. look (x ∷ ns) n.text ≡ Some n) ms
 look_later x ns [] a h = tt
@@ -225,9 +221,9 @@ boolean_at u ds xs h n (Some m) e t = go (is_parameter m.section) refl
 
     go : (b : Bool) → is_parameter m.section ≡ b → EachName (λ k. NameAt xs k IsBooleanVariable) (cond b (constant (is_one m.value)) (named (place_in (map (name_of u) ds) n)))
     go true p = tt
-    go false p = at_name (Stands m) IsBooleanVariable
+    go false p = name_map (Stands m) IsBooleanVariable xs (place_in (map (name_of u) ds) n)
         (λ x s. (ap has_column s.role ∙ column_of m.section (variable (is_parameter m.section) (is_output m.section) (is_bool m.kind) p t), s.kind ∙ bool_kind m.kind (not (is_output m.section)) t))
-        xs (place_in (map (name_of u) ds) n) (stands_at u ds xs h n m e)
+        (stands_at u ds xs h n m e)
 
 signed_names : (P : ℕ → Type 0) (op : UnaryOp) (f : FormulaTree) → EachName P f → EachName P (signed_by op f)
 signed_names P unary.Not f h = h

@@ -14,7 +14,7 @@ use Rattle.hys_meaning.specs.Names.{Name, names, name_of, parameters, look}
 use Rattle.hys_meaning.specs.Bodies.{body}
 use Rattle.hys_meaning.specs.Typed.{DeclaredOnce, Typed, Bounded, HaveValues, DefinedOnce, ItemTyped, LeftTyped, RightTyped, left, suits, defines, is_defined}
 use Rattle.hys_meaning.specs.Unfolded.{Guard, guards, guard_decl, unfolded}
-use Rattle.hys_meaning.specs.Accepted.{KeepsRules}
+use Rattle.hys_type.specs.Rules.{KeepsTyping}
 use Rattle.hys_prog.specs.declared.program.Name.{Name as ProgName}
 use Rattle.hys_prog.specs.declared.program.ProgItem.{ProgItem}
 use Rattle.hys_prog.specs.declared.program.Program.{Program}
@@ -22,12 +22,13 @@ use Rattle.hys_prog.specs.Programs.{NameAt, EachItem, BodyOver, Named, Suits, Is
 use Rattle.hys_prog.specs.Programs as program
 use Rattle.hys_type.specs.Translation.{place_in, place_if, role_in, IsNameOf, OneByOne, Setting, setting, IsBodyOf, IsItemOf, IsNamedTranslation, IsTranslation, left_kind, kind_of}
 use Rattle.hys_type.specs.Declaring.{declares, IsDeclaration}
+use Rattle.hys_prog.proofs.Names.{name_map}
 use Rattle.hys_type.proofs.KnownValues.{same_text, own_text, declared_texts, differ_texts}
 use Rattle.hys_type.proofs.Agree.{Placed, placed}
 use Rattle.hys_type.proofs.FormPlaces.{same_column, own_column}
 use Rattle.hys_type.proofs.SameSteps.{left_declared, names_differ, own_values}
 use Rattle.hys_type.proofs.ProgramNames.{Ruled, all_ruled, parameter_bits, roles_kept, names_spelled, texts_differ, columns_weigh}
-use Rattle.hys_type.proofs.ProgramForms.{Stands, stands_at, at_name, look_own}
+use Rattle.hys_type.proofs.ProgramForms.{Stands, stands_at, look_own}
 use Rattle.hys_type.proofs.ProgramBodies.{body_over, must_is, item_suits}
 use Rattle.hys_type.proofs.ProgramWeight.{left_kind_is, items_weigh}
 
@@ -47,7 +48,7 @@ named_item c u ds xs e h i t q r = go i.name t.name q.name r.0 r.1 q.body
   where
     at_left : (n : List ℕ) (o : Option Name) → look c.names n ≡ o → IsTrue (suits i.section o) → RightTyped c.names o (body i) → IsBodyOf c (kind_of o) (body i) t.body → NameAt xs (place_in c.names n) (Suits t.body)
     at_left n None f l r b = absurd (left_declared i.section l)
-    at_left n (Some m) f l r b = at_name (Stands m) (Suits t.body) (λ x s. item_suits c (Some m) m x i.section i.shape t.body s l r b) xs (place_in c.names n)
+    at_left n (Some m) f l r b = name_map (Stands m) (Suits t.body) xs (place_in c.names n) (λ x s. item_suits c (Some m) m x i.section i.shape t.body s l r b)
         (subst (λ ns. NameAt xs (place_in ns n) (Stands m)) (sym e) (stands_at u ds xs h n m (ap (λ ns. look ns n) (sym e) ∙ f)))
 
     go : (o : Option (List ℕ)) (p : Option ℕ) → p ≡ place_if c.names o → LeftTyped i.section c.names o → RightTyped c.names (left c.names o) (body i) → IsBodyOf c (left_kind c.names o) (body i) t.body → Named xs p t.body
@@ -55,7 +56,7 @@ named_item c u ds xs e h i t q r = go i.name t.name q.name r.0 r.1 q.body
     go (Some n) p f l r b = subst (λ p. Named xs p t.body) (sym f) (at_left n (look c.names n) refl l r b)
 
 -- ---- each defined name is defined once
-place_injective : (ns : List Name) (m n : List ℕ) (y z : Name) → look ns m ≡ Some y → look ns n ≡ Some z → place_in ns m ≡ place_in ns n → m ≡ n
+pub place_injective : (ns : List Name) (m n : List ℕ) (y z : Name) → look ns m ≡ Some y → look ns n ≡ Some z → place_in ns m ≡ place_in ns n → m ≡ n
 place_injective [] m n y z h k e = absurd (cc)
 place_injective (x ∷ ns) m n y z h k e = go (bytes_eq x.text m) (bytes_eq x.text n) refl refl h k e (place_injective ns m n y z)
   where
@@ -72,7 +73,7 @@ both_true false true f g = g refl
 both_true false false f g = refl
 
 -- an item defines the name at a place just where it defines its text
-same_definition : (c : Setting) (n : ℕ) (q : List ℕ) (z : Name) → place_in c.names q ≡ n → look c.names q ≡ Some z → (i : Item) (t : ProgItem) → IsItemOf c i t → ItemTyped c.names i → is_named n t.name ≡ defines q i.name
+pub same_definition : (c : Setting) (n : ℕ) (q : List ℕ) (z : Name) → place_in c.names q ≡ n → look c.names q ≡ Some z → (i : Item) (t : ProgItem) → IsItemOf c i t → ItemTyped c.names i → is_named n t.name ≡ defines q i.name
 same_definition c n q z e l i t h r = go i.name t.name h.name r.0
   where
     at_text : (m : List ℕ) (o : Option Name) → look c.names m ≡ o → IsTrue (suits i.section o) → eqb (place_in c.names m) n ≡ bytes_eq q m
@@ -95,16 +96,16 @@ same_count c n q z e l (i ∷ xs) (t ∷ ts) h r =
     ∙ sym (sum_by-cons (λ (y : Item). cond (defines q y.name) 1 0) i xs)
 
 -- the declaration of the name at a place
-record Found (u : Assignment) (ns : List Name) (R : Decl → Type 0) (P : ProgName → Type 0) (n : ℕ) : Type 0 where
-  decl : Decl
-  name : ProgName
-  is : IsNameOf u decl name
-  has : P name
-  ruled : R decl
-  place : place_in ns decl.name ≡ n
-  found : look ns decl.name ≡ Some (name_of u decl)
+pub record Found (u : Assignment) (ns : List Name) (R : Decl → Type 0) (P : ProgName → Type 0) (n : ℕ) : Type 0 where
+  pub decl : Decl
+  pub name : ProgName
+  pub is : IsNameOf u decl name
+  pub has : P name
+  pub ruled : R decl
+  pub place : place_in ns decl.name ≡ n
+  pub found : look ns decl.name ≡ Some (name_of u decl)
 
-at_decl : (u : Assignment) (ns : List Name) (R : Decl → Type 0) (P : ProgName → Type 0) (k : ℕ) (ds : List Decl) (xs : List ProgName) → OneByOne (IsNameOf u) ds xs → AllByRecursion R ds → Placed k (map (name_of u) ds) (place_in ns) →
+pub at_decl : (u : Assignment) (ns : List Name) (R : Decl → Type 0) (P : ProgName → Type 0) (k : ℕ) (ds : List Decl) (xs : List ProgName) → OneByOne (IsNameOf u) ds xs → AllByRecursion R ds → Placed k (map (name_of u) ds) (place_in ns) →
     AllByRecursion (λ n. look ns n.text ≡ Some n) (map (name_of u) ds) → (i j : ℕ) → j ≡ k + i → NameAt xs i P → Found u ns R P j
 at_decl u ns R P k [] [] h r p l i j e x = absurd x
 at_decl u ns R P k [] (y ∷ xs) h r p l i j e x = absurd h
@@ -160,7 +161,7 @@ named_program tolerance s p h once values typed bounded defined spelled positive
         ∙ f.ruled.1 (defined_role f.decl.section f.ruled.0 (ap program.is_defined (sym f.is.role) ∙ f.has))
 
 -- ---- unnamed guards
-all_append : (P : Decl → Type 0) (xs ys : List Decl) → AllByRecursion P xs → AllByRecursion P ys → AllByRecursion P (xs ++ ys)
+pub all_append : (P : Decl → Type 0) (xs ys : List Decl) → AllByRecursion P xs → AllByRecursion P ys → AllByRecursion P (xs ++ ys)
 all_append P [] ys h k = k
 all_append P (x ∷ xs) ys h k = (h.0, all_append P xs ys h.1 k)
 
@@ -172,6 +173,6 @@ guards_spelled : (gs : List Guard) → AllByRecursion IsSpelled (map guard_decl 
 guards_spelled [] = tt
 guards_spelled (g ∷ gs) = ((refl, inr (record { number = g.number; text_is = refl })), guards_spelled gs)
 
-pub translation_program : (tolerance : Number) (s : Source) (p : Program) → IsTranslation tolerance s p → KeepsRules (unfolded s) → AllByRecursion IsDeclaration s.decls → whole 0 <ₙ tolerance → IsProgram p
+pub translation_program : (tolerance : Number) (s : Source) (p : Program) → IsTranslation tolerance s p → KeepsTyping (unfolded s) → AllByRecursion IsDeclaration s.decls → whole 0 <ₙ tolerance → IsProgram p
 translation_program tolerance s p h r d l = named_program tolerance (unfolded s) p h r.declared r.values r.typed r.bounded r.defined
     (all_append IsSpelled s.decls (map guard_decl (guards s)) (words_spelled s.decls d) (guards_spelled (guards s))) l

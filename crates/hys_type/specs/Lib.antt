@@ -10,6 +10,7 @@ pub mod Operands
 pub mod Examples
 pub mod Translation
 pub mod Views
+pub mod Rules
 pub mod Declaring
 pub mod SameMeaning
 pub mod SmallProgram

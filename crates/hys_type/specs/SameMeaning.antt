@@ -1,5 +1,5 @@
 -- That a source and a program have the same steps.
-use Rattle.std.specs.Prelude.{List, ◌↔◌}
+use Rattle.std.specs.Prelude.{◌≡◌, ℕ, List, map, ◌↔◌}
 use Rattle.hys_number.specs.Number.{Number}
 use Rattle.hys_lin.specs.Sums.{Assignment as PlaceAssignment}
 use Rattle.hys_ast.specs.Tree.{Source}
@@ -7,10 +7,12 @@ use Rattle.hys_meaning.specs.Values.{Assignment}
 use Rattle.hys_meaning.specs.Names.{names}
 use Rattle.hys_meaning.specs.Typed.{DeclaredOnce, Typed}
 use Rattle.hys_meaning.specs.Unfolded.{unfolded}
+use Rattle.hys_meaning.specs.Circular.{Circular}
 use Rattle.hys_meaning.specs.Steps as source
 use Rattle.hys_prog.specs.declared.program.Program.{Program}
+use Rattle.hys_prog.specs.Orders.{Circular as IsCircular}
 use Rattle.hys_prog.specs.Steps as program
-use Rattle.hys_type.specs.Translation.{IsTranslation}
+use Rattle.hys_type.specs.Translation.{IsTranslation, place_in}
 use Rattle.hys_type.specs.Views.{by_places, by_texts}
 
 -- the program is the translation of a typed source in which no name is declared twice
@@ -37,3 +39,12 @@ LegalByPlaces tolerance s p = (x u : List Number) (w : Assignment) (x' y : List 
 abbrev pub LegalByTexts : Number → Source → Program → Type 0
 LegalByTexts tolerance s p = (x u : List Number) (v : PlaceAssignment) (x' y : List Number) →
     program.Legal p x u v x' y ↔ source.Legal tolerance s x u (by_texts (names s) v) x' y
+
+-- the places of a circular list of names are one of the program
+abbrev pub CirclesByPlaces : Source → Program → Type 0
+CirclesByPlaces s p = (ns : List (List ℕ)) → Circular s ns → IsCircular p (map (place_in (names s)) ns)
+
+-- each circular list of the program has the places of one of the source
+abbrev pub CirclesByTexts : Source → Program → Type 0
+CirclesByTexts s p = (js : List ℕ) → IsCircular p js →
+    (ns : List (List ℕ)) × (map (place_in (names s)) ns ≡ js) × Circular s ns

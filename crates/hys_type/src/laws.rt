@@ -3,7 +3,7 @@
 ghost use Rattle.std.specs.Prelude.{◌≡◌, ◌<◌, ◌↔◌, ℕ, List, [], ◌∷◌, Some, None, true, codes, length};
 ghost use Rattle.std.specs.List.{AllByRecursion};
 ghost use Rattle.hys_number.specs.Ops.{◌<ₙ◌, whole};
-ghost use Rattle.hys_meaning.specs.Accepted.{KeepsRules};
+ghost use Rattle.hys_type.specs.Rules.{KeepsTyping};
 ghost use Rattle.hys_prog.specs.Programs.{IsProgram};
 ghost use Rattle.hys_type.specs.Declaring.{IsDeclaration};
 ghost use Rattle.hys_meaning.specs.Forms.{Form};
@@ -21,7 +21,7 @@ ghost use Rattle.hys_meaning.specs.Unfolded.{unfolded};
 ghost use Rattle.hys_prog.specs.declared.program.Program.{Program};
 ghost use Rattle.hys_type.specs.Translation.{IsTranslation};
 ghost use Rattle.hys_type.specs.Views.{by_places, by_texts};
-ghost use Rattle.hys_type.specs.SameMeaning.{Translates, StepsByPlaces, StepsByTexts, LegalByPlaces, LegalByTexts};
+ghost use Rattle.hys_type.specs.SameMeaning.{Translates, StepsByPlaces, StepsByTexts, LegalByPlaces, LegalByTexts, CirclesByPlaces, CirclesByTexts};
 ghost use Rattle.hys_type.specs.SmallProgram.{small, small_program};
 ghost use Rattle.hys_type.specs.Checks.{fault_of};
 ghost use Rattle.hys_type.specs.Examples.{spot, name, zero_at, ten_at, state, output, next, source, stepping};
@@ -71,11 +71,20 @@ pub fn same_meaning()
         LegalByTexts tolerance (unfolded s) p }
 {}
 
-/// The translation of a source that keeps the rules is a program, where the declarations of the
+/// The translation of a source that keeps the rules of typing is a program, where the declarations of the
 /// source are as they are read from a text and the tolerance is above 0.
 pub fn translations_are_programs()
-    ensures { (tolerance : Number) (s : Source) (p : Program) → IsTranslation tolerance s p → KeepsRules (unfolded s) →
+    ensures { (tolerance : Number) (s : Source) (p : Program) → IsTranslation tolerance s p → KeepsTyping (unfolded s) →
         AllByRecursion IsDeclaration s.decls → whole 0 <ₙ tolerance → IsProgram p }
+{}
+
+/// The circular lists of definitions of a translation are those of its source, by places and by
+/// texts: so a program has none exactly where its source has none.
+pub fn same_circles()
+    ensures by_places { (tolerance : Number) (s : Source) (p : Program) → Translates tolerance s p →
+        CirclesByPlaces (unfolded s) p }
+    ensures by_texts { (tolerance : Number) (s : Source) (p : Program) → Translates tolerance s p →
+        AllByRecursion IsDeclaration s.decls → CirclesByTexts (unfolded s) p }
 {}
 
 /// A small program is the translation of a small source with an unnamed guard, parameters of both
