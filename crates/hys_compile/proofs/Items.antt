@@ -79,7 +79,7 @@ pub defined_in : (b : Bool) (w : Assignment) (d : Decl) (rest : Option Name) (m 
 defined_in true w d rest m R e h f g = f (and_parts _ (is_real d.kind) h).0 ((bytes_eq-Decides d.name m).0 e)
 defined_in false w d rest m R e h f g = g h
 
-once : (w : Assignment) (is : List Item) (m : List ℕ) (ds : List Decl) → IsTrue (is_left is_state is_real (look (map (name_of w) ds) m)) →
+pub once : (w : Assignment) (is : List Item) (m : List ℕ) (ds : List Decl) → IsTrue (is_left is_state is_real (look (map (name_of w) ds) m)) →
     AllByRecursion (λ d. IsTrue (is_defined d.section) → count_by (λ i. defines d.name i.name) is ≡ 1) ds → count_by (λ i. defines m i.name) is ≡ 1
 once w is m [] h k = absurd (true≢false (sym h))
 once w is m (d ∷ ds) h k =

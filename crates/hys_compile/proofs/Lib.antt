@@ -45,3 +45,6 @@ pub mod Accepting
 pub mod Compiled
 pub mod Answered
 pub mod Weighing
+pub mod Readable
+pub mod PlainSums
+pub mod Faultless

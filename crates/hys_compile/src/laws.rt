@@ -1,12 +1,16 @@
 //! What holds of texts, of plain sources and of the systems of their parts, as calls that do nothing.
 
-ghost use Rattle.std.specs.Prelude.{◌≡◌, ◌≤◌, ℕ, List, length, map};
+ghost use Rattle.std.specs.Prelude.{◌≡◌, ◌≤◌, ℕ, List, None, length, map};
 ghost use Rattle.std.specs.List.{AllByRecursion};
 ghost use Rattle.hys_number.specs.Number.{Number};
+ghost use Rattle.hys_lex.specs.Cut.{Cut};
 ghost use Rattle.hys_lex.specs.declared.token.Token.{Token};
 ghost use Rattle.hys_ast.specs.Tree.{Source};
+ghost use Rattle.hys_ast.specs.Grammar.{IsTreeOf};
 ghost use Rattle.hys_ast.specs.Nodes.{nodes, total, expressions};
 ghost use Rattle.hys_meaning.specs.Accepted.{Accepted};
+ghost use Rattle.hys_type.specs.Checks.{fault_of, HasSourceLiterals};
+ghost use Rattle.hys_type.specs.Declaring.{IsDeclaration};
 ghost use Rattle.hys_plain.specs.Plain.{IsPlain};
 ghost use Rattle.hys_plain.specs.Meant.{PartsOf};
 ghost use Rattle.hys_plain.specs.declared.parts.PlainParts.{PlainParts};
@@ -31,6 +35,20 @@ pub fn exact_for_plain_source()
     ensures accepted { (tokens : List Token) (s : Source) → IsPlain tokens s → total (expressions s) ≤ 4000 →
         AllByRecursion (λ e. nodes e ≤ 1000) (expressions s) → Accepted s }
     ensures accepted_text { (text : List ℕ) → IsPlainText text → IsAcceptedText text }
+{}
+
+/// Of a source that is read from a text each literal is read as what it is, and each declaration
+/// stands in a section of declarations and has a word as its name.
+pub fn read_sources()
+    ensures literals { (text : List ℕ) (tokens : List Token) (s : Source) → Cut text tokens → IsTreeOf text tokens s →
+        HasSourceLiterals s }
+    ensures declarations { (text : List ℕ) (tokens : List Token) (s : Source) → Cut text tokens → IsTreeOf text tokens s →
+        AllByRecursion IsDeclaration s.decls }
+{}
+
+/// No check of typing fails in a plain source.
+pub fn plain_sources_are_typed()
+    ensures { (tokens : List Token) (s : Source) → IsPlain tokens s → fault_of s ≡ None }
 {}
 
 /// There are twenty faults, and each constant of the module `number` is the number of the fault
