@@ -1,15 +1,15 @@
 -- The new number of a cell, case by case, and rows and tables while they are written.
-use Rattle.std.proofs.Common.{◌≡◌, ◌≢◌, ℕ, ◌+◌, ◌*◌, ◌/◌, ◌<◌, ◌≤◌, ◌==◌, ◌&&◌, ◌↔◌, ◌⊎◌, inl, inr, if◌then◌else◌, Bool, true, false, IsTrue, IsSome, IfSome, refl, sym, ◌∙◌, ap, ap₂, subst, arith, Option, Some, None, List, [], ◌∷◌}
+use Rattle.std.proofs.Common.{◌≡◌, ◌≢◌, ℕ, ◌+◌, ◌*◌, ◌/◌, ◌<◌, ◌≤◌, ◌&&◌, ◌↔◌, ◌⊎◌, inl, inr, Bool, true, false, IsTrue, IsSome, IfSome, refl, sym, ◌∙◌, ap, ap₂, subst, arith, Option, Some, None, [], ◌∷◌}
 use Rattle.std.proofs.lemmas.Nat.{div-mul-add}
 use Rattle.hys_number.specs.Number.{Number}
-use Rattle.hys_number.specs.Ops.{◌+ₙ◌, ◌*ₙ◌, ◌-ₙ◌, ◌/ₙ◌, neg, inverse, whole, fits}
+use Rattle.hys_number.specs.Ops.{◌*ₙ◌, ◌-ₙ◌, ◌/ₙ◌, neg, inverse, whole, fits}
 use Rattle.hys_number.proofs.Field.{mul_assoc}
 use Rattle.hys_number.proofs.Ring.{by_ring, v, k, minus, ◌⊗◌, ◌⊖◌}
 use Rattle.hys_relax.proofs.Zeros.{zero_fits}
 use Rattle.hys_simplex.specs.Tableau.{pivoted}
 use Rattle.hys_simplex.specs.Unfit.{subtracted}
 use Rattle.hys_simplex.proofs.Same.{same_yes, same_no}
-use Rattle.hys_simplex.proofs.Pivots.{cell_rc, cell_r, cell_c, cell_other}
+use Rattle.hys_simplex.proofs.Pivots.{cell_rc, cell_c, cell_other}
 use Rattle.hys_tab.specs.Cells.{fits_under, IsOther, row, column}
 
 -- ---- a number less a multiple

@@ -1,10 +1,10 @@
 -- A pivot in memory is the tableau's, and the first cell that is shown is the first that doesn't fit under it.
-use Rattle.std.proofs.Common.{◌≡◌, ◌≢◌, ℕ, ◌+◌, ◌*◌, ◌^◌, ◌<◌, ◌≤◌, ◌==◌, ◌&&◌, ◌⊎◌, inl, inr, if◌then◌else◌, Bool, true, false, refl, sym, ◌∙◌, ap, ap₂, subst, arith, Option, Some, None, List, length, slice_index_or, slice_set}
+use Rattle.std.proofs.Common.{◌≡◌, ◌≢◌, ℕ, ◌+◌, ◌*◌, ◌^◌, ◌<◌, ◌≤◌, ◌==◌, ◌&&◌, ◌⊎◌, inl, inr, if◌then◌else◌, Bool, true, false, refl, sym, ◌∙◌, ap, subst, arith, Some, None, List, length, slice_index_or, slice_set}
 use Rattle.std.proofs.lemmas.List.{get_or-set_same, get_or-set_other, length-set}
-use Rattle.std.proofs.lemmas.List.Elements.{All-from_get_or}
+use Rattle.std.proofs.lemmas.List.Elements.{All-from_get_or, All-get_or}
 use Rattle.hys_number.specs.Number.{Number}
 use Rattle.hys_number.specs.Ops.{fits}
-use Rattle.hys_simplex.specs.Tableau.{Tableau, start, pivoted, pivot, put}
+use Rattle.hys_simplex.specs.Tableau.{start, pivoted, pivot, put}
 use Rattle.hys_simplex.specs.Unfit.{subtracted, CellUnfit}
 use Rattle.hys_simplex.specs.Alike.{IsAlike}
 use Rattle.hys_simplex.proofs.Same.{same_yes, same_no}
@@ -13,6 +13,7 @@ use Rattle.hys_relax.specs.LinearProgram.{LinearProgram}
 use Rattle.hys_tab.specs.Cells.{cell_at, fits_under, IsFirstAt, AllFit}
 use Rattle.hys_tab.specs.Table.{Table, IsTable, tableau_of}
 use Rattle.hys_tab.specs.Fits.{IsBefore, IsFirstUnfit, FitsUnder}
+use Rattle.hys_tab.proofs.Placing.{begins_placed, pivot_stands}
 use Rattle.hys_tab.proofs.Steps.{fits_in_row, fits_in_column, fits_apart}
 
 -- ---- which cells fit
@@ -126,6 +127,7 @@ begins ys bs os m n e lm ln em b en o f = record {
   basics = All-from_get_or (λ u. u < length os + length bs) bs 0 (λ i l. omega (arith, em, en, b i (omega (arith, l, em))));
   outsides = All-from_get_or (λ u. u < length os + length bs) os 0 (λ i l. omega (arith, em, en, l, o i (omega (arith, l, en))));
   fit = rw (em, en) f;
+  placed = begins_placed ys bs os m n em b en o;
 }
 
 pub begins_alike : (P : LinearProgram) (ys : List Number) (bs os : List ℕ) → length bs ≡ P.rows → ((i : ℕ) → i < P.rows → slice_index_or bs i 0 ≡ P.columns + i) →
@@ -142,3 +144,43 @@ begins_alike P ys bs os em b en o cs = record {
     basic_is : (i : ℕ) → (i ≡ length bs) ⊎ (i ≢ length bs) → i ≤ length bs → (if i == length bs then length os + length bs else slice_index_or bs i 0) ≡ P.columns + i
     basic_is i (inl e) l = subst (λ z. (if z == length bs then length os + length bs else slice_index_or bs z 0) ≡ P.columns + z) (sym e) (rw (same_yes (length bs)) (omega (arith, en)))
     basic_is i (inr d) l = rw (same_no i (length bs) (λ z. d (sym z))) (b i (omega (arith, l, d, em)))
+
+-- ---- the table after a pivot
+fits_new : (M : ℕ → ℕ → Number) (r c i j : ℕ) → fits_under M r c i j ≡ true → fits (pivoted M r c i j) ≡ true
+fits_new M r c i j e = elim (same_place i r) as (λ _. fits (pivoted M r c i j) ≡ true) [
+  | inl q ↦ sym (fits_in_row M r c i j q) ∙ e
+  | inr d ↦ elim (same_place j c) as (λ _. fits (pivoted M r c i j) ≡ true) [
+    | inl q ↦ sym (fits_in_column M r c i j d q) ∙ e
+    | inr d' ↦ (both_true (fits (subtracted M r c i j)) (fits (pivoted M r c i j)) (sym (fits_apart M r c i j d d') ∙ e)).1
+  ]
+]
+
+-- numbers below a limit, with one more put
+all_below : (k : ℕ) (bs : List ℕ) (r x : ℕ) → r < length bs → x < k → ((i : ℕ) → i < length bs → slice_index_or bs i 0 < k) → (i : ℕ) → i < length bs → slice_index_or (slice_set bs r x) i 0 < k
+all_below k bs r x l m h i li = elim (same_place i r) as (λ _. slice_index_or (slice_set bs r x) i 0 < k) [
+  | inl q ↦ subst (λ z. slice_index_or (slice_set bs r x) z 0 < k) (sym q) (rw (get_or-set_same bs r x 0 l) m)
+  | inr d ↦ rw (get_or-set_other bs r i x 0 d) (h i li)
+]
+
+pub pivoted_table : (t : Table) (xs ys zs : List Number) (m n r c x y : ℕ) → m ≡ length t.basics → n ≡ length t.outsides → xs ≡ t.cells → r < length t.basics → c < length t.outsides →
+    x ≡ slice_index_or t.outsides c 0 → y ≡ slice_index_or t.basics r 0 → IsTable t → length ys ≡ length xs → zs ≡ t.cells → IsFirstAt (fits_under (cell_at zs (n + 1)) r c) (m + 1) (n + 1) None →
+    ((a b : ℕ) → a < m + 1 → b < n + 1 → cell_at ys (n + 1) a b ≡ pivoted (cell_at xs (n + 1)) r c a b) →
+    IsTable (record { cells = ys; basics = slice_set t.basics r x; outsides = slice_set t.outsides c y })
+pivoted_table t xs ys zs m n r c x y e f g lr lc ex ey it long ez fit done =
+    let k : ℕ = length t.outsides + length t.basics in
+    let eb : length (slice_set t.basics r x) ≡ length t.basics = length-set t.basics r x in
+    let eo : length (slice_set t.outsides c y) ≡ length t.outsides = length-set t.outsides c y in
+    let bs : (i : ℕ) → i < length t.basics → slice_index_or t.basics i 0 < k = λ i l. All-get_or (λ u. u < k) t.basics i 0 l it.basics in
+    let os : (j : ℕ) → j < length t.outsides → slice_index_or t.outsides j 0 < k = λ j l. All-get_or (λ u. u < k) t.outsides j 0 l it.outsides in
+    record {
+      shape = long ∙ ap length g ∙ it.shape ∙ rw (eb, eo) refl;
+      few_rows = rw eb it.few_rows;
+      few_columns = rw eo it.few_columns;
+      basics = All-from_get_or (λ u. u < length (slice_set t.outsides c y) + length (slice_set t.basics r x)) (slice_set t.basics r x) 0
+          (λ i l. rw (eb, eo) (all_below k t.basics r x lr (rw ex (os c lc)) bs i (omega (arith, l, eb))));
+      outsides = All-from_get_or (λ u. u < length (slice_set t.outsides c y) + length (slice_set t.basics r x)) (slice_set t.outsides c y) 0
+          (λ j l. rw (eb, eo) (all_below k t.outsides c y lc (rw ey (bs r lr)) os j (omega (arith, l, eo))));
+      fit = rw (eb, eo) (λ i j l o. ap fits (ap (λ z. cell_at ys (z + 1) i j) (sym f) ∙ done i j (omega (arith, l, e)) (omega (arith, o, f)) ∙ ap (λ us. pivoted (cell_at us (n + 1)) r c i j) (g ∙ sym ez))
+          ∙ fits_new (cell_at zs (n + 1)) r c i j (fit i j (omega (arith, l, e)) (omega (arith, o, f))));
+      placed = pivot_stands t (record { cells = ys; basics = slice_set t.basics r x; outsides = slice_set t.outsides c y }) r c lr lc it.placed (pivot_in t xs ys m n r c x y e f g lr lc ex ey done);
+    }

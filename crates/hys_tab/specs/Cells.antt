@@ -1,13 +1,15 @@
 -- Cells that stand in a list, row by row, and which of them fit under a pivot.
-use Rattle.std.specs.Prelude.{◌≡◌, ◌≢◌, ℕ, ◌+◌, ◌*◌, ◌<◌, ◌==◌, ◌&&◌, if◌then◌else◌, Bool, true, false, List, [], Option, Some, None}
+use Rattle.std.specs.Prelude.{◌≡◌, ◌≢◌, ℕ, ◌+◌, ◌*◌, ◌<◌, ◌==◌, ◌&&◌, if◌then◌else◌, Bool, true, false, List, [], ◌∷◌, length, Option, Some, None}
 use Rattle.std.specs.List.{slice_index_or}
 use Rattle.std.proofs.Common.{get_or}
 use Rattle.hys_number.specs.Number.{Number}
-use Rattle.hys_number.specs.Ops.{whole, fits, neg}
+use Rattle.hys_number.specs.Ops.{◌*ₙ◌, whole, fits, neg}
+use Rattle.hys_number.specs.Sums.{sum_to}
 use Rattle.hys_lin.specs.Scaled.{coefficient}
 use Rattle.hys_lin.specs.declared.form.Term.{Term}
 use Rattle.hys_lin.specs.declared.form.Row.{Row}
-use Rattle.hys_simplex.specs.Tableau.{pivoted}
+use Rattle.hys_relax.specs.BoundSum.{not_zero}
+use Rattle.hys_simplex.specs.Tableau.{pivoted, unit}
 use Rattle.hys_simplex.specs.Unfit.{subtracted}
 
 -- the cell at row i and column j of rows that are w wide
@@ -52,3 +54,18 @@ row_of rows i = get_or rows i (record { terms = []; bound = whole 0; eq = false 
 pub data IsOther (i j a b : ℕ) : Type 0 where
   row : a ≢ i → IsOther i j a b
   column : b ≢ j → IsOther i j a b
+
+-- the numbers of a list are below a limit, and none comes twice
+pub record DifferentBelow (limit : ℕ) (xs : List ℕ) : Type 0 where
+  pub below : (j : ℕ) → j < length xs → slice_index_or xs j 0 < limit
+  pub once : (i j : ℕ) → i < length xs → j < length xs → slice_index_or xs i 0 ≡ slice_index_or xs j 0 → i ≡ j
+
+-- what the first j columns give to the multiplier of row k: the negated cost cell where its slack stands outside in
+-- one of them, else 0; row m is that of the cost
+abbrev pub negated_cost : List Number → List ℕ → (m j k : ℕ) → Number
+negated_cost cells outside m j k =
+    neg (sum_to j (λ q. cell_at cells (length outside + 1) m q *ₙ unit (length outside + k) (slice_index_or outside q 0)))
+
+-- the place with its number, or nothing where that is 0
+abbrev pub some_pair : ℕ → Number → List (ℕ × Number)
+some_pair k a = if not_zero a.num then (k, a) ∷ [] else []

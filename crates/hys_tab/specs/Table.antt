@@ -3,11 +3,11 @@ use Rattle.std.specs.Prelude.{◌≡◌, ℕ, ◌+◌, ◌*◌, ◌^◌, ◌-◌
 use Rattle.std.specs.List.{slice_index_or}
 use Rattle.std.specs.Coded.{Coded, code_by, coded×, coded_list, coded_ℕ}
 use Rattle.hys_number.specs.Number.{Number}
-use Rattle.hys_number.specs.Ops.{fits, neg, whole}
+use Rattle.hys_number.specs.Ops.{neg}
 use Rattle.hys_frac.specs.Frac.{number_code}
 use Rattle.hys_relax.specs.declared.range.Var.{Var}
 use Rattle.hys_relax.specs.declared.range.Var.TheVariants.{Column, Slack}
-use Rattle.hys_simplex.specs.Tableau.{Tableau, coef}
+use Rattle.hys_simplex.specs.Tableau.{Tableau, coef, IsPlaced}
 use Rattle.hys_simplex.specs.Unfit.{pairs_to}
 use Rattle.hys_tab.specs.Cells.{cell_at, AllFit}
 
@@ -47,6 +47,8 @@ pub record IsTable (t : Table) : Type 0 where
   pub basics : All (λ u. u < length t.outsides + length t.basics) t.basics
   pub outsides : All (λ u. u < length t.outsides + length t.basics) t.outsides
   pub fit : AllFit t.cells (length t.basics + 1) (length t.outsides + 1)
+  -- each variable stands in one row or in one column
+  pub placed : IsPlaced (length t.outsides) (length t.basics) (tableau_of t)
 
 -- the multipliers that are read off the cost row: the negated cost cells of the slacks, without those that are 0
 abbrev pub multipliers_of : Tableau → List (ℕ × Number)

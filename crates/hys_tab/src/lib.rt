@@ -2,6 +2,7 @@
 #![tactic(auto)]
 
 mod cells;
+mod reading;
 mod slack_basis;
 mod tableau;
 

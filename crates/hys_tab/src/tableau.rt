@@ -5,14 +5,16 @@ ghost use Rattle.hys_lin.specs.Problem.{IsProblem};
 ghost use Rattle.hys_relax.specs.LinearProgram.{linear_program};
 ghost use Rattle.hys_simplex.specs.Tableau.{start as start_of, pivot as pivot_of};
 ghost use Rattle.hys_simplex.specs.Alike.{IsAlike};
-ghost use Rattle.hys_tab.specs.Table.{tableau_of, variable_of};
+ghost use Rattle.hys_relax.specs.Bound.{AreMultipliers};
+ghost use Rattle.hys_tab.specs.Table.{tableau_of, variable_of, multipliers_of};
 ghost use Rattle.hys_tab.specs.Fits.{IsFirstUnfit, FitsUnder};
 
 use crate::cells::{Pivot, first_unfit, write_rows};
+use crate::reading::{negated_costs, without_zeros};
 use crate::slack_basis::fill;
-use hys_frac::Frac;
+use hys_frac::{Frac, List};
 use hys_lin::Problem;
-use hys_relax::Var;
+use hys_relax::{Multipliers, Var};
 use std::alloc::{AllocError, Global};
 use std::marker::Model;
 
@@ -121,6 +123,21 @@ impl Tableau {
                 Ok(())
             }
         }
+    }
+
+    /// The multipliers that are read off the cost row: of each row the negated cost cell of its slack,
+    /// without those that are 0. They are the weights by which the cost row is a sum of the problem's.
+    pub fn multipliers(&self, alloc: Global) -> Result<Multipliers, AllocError>
+        ensures value { IfOk result (λ m. m.pairs ≡ multipliers_of (tableau_of self.now)) }
+        ensures rise { IfOk result (λ m. AreMultipliers m.pairs) }
+        ensures few { IfOk result (λ m. length m.pairs ≤ length self.now.outsides) }
+    {
+        let rows = self.basic.len();
+        let costs = negated_costs(alloc, self.cells.as_slice(), self.outside.as_slice(), rows)?;
+        let pairs = without_zeros(alloc, costs.as_slice())?;
+        Ok(Multipliers {
+            pairs: List::of(pairs),
+        })
     }
 
     /// The same tableau, in memory of its own.

@@ -1,4 +1,4 @@
-use Rattle.std.proofs.Common.{◌≡◌, ◌<◌, ◌+◌, ◌∙◌, sym, ap, subst, arith, refl, get_or, [], false}
+use Rattle.std.proofs.Common.{◌≡◌, ◌<◌, ◌+◌, ◌∙◌, sym, ap, subst, arith, refl, [], false}
 use Rattle.std.proofs.lemmas.List.{get_or_default}
 use Rattle.hys_number.specs.Ops.{fits, whole}
 use Rattle.hys_lin.specs.Sums.{EachColumn}
