@@ -47,4 +47,5 @@ pub mod Answered
 pub mod Weighing
 pub mod Readable
 pub mod PlainSums
+pub mod Usual
 pub mod Faultless

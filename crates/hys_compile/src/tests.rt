@@ -1,5 +1,6 @@
 use crate::{Detail, LimitKind, SourceFault, compile};
 use hys_ast::Place;
+use hys_lin::{Lost, Op};
 use std::alloc::{AllocError, Global};
 use std::process::Abort;
 use std::test::Fail;
@@ -214,12 +215,13 @@ fn limit_on_bytes(rt: HostRuntime) -> Result<(), Fail> {
     Ok(())
 }
 
-// Each bound is a node, and a sum of n names has 2 * n - 1 nodes.
+// Each bound is a node, and a sum of n names has 2 * n - 1 nodes. The second item, after 80 and 2,003 characters, defines
+// the name again.
 #[test]
 fn limits_on_nodes(rt: HostRuntime) -> Result<(), Fail> {
     let alloc = rt.alloc();
     let rows = [
-        (4, "x = -x;", Answer::Placed(19, 1, 1)),
+        (4, "x = -x;", Answer::Placed(14, 1, 2084)),
         (4, "x = x + x;", Answer::Over(LimitKind::Nodes)),
         (0, "x = -x + x;", Answer::Placed(19, 1, 1)),
     ];
@@ -240,6 +242,173 @@ fn limits_on_nodes(rt: HostRuntime) -> Result<(), Fail> {
             "SYSTEM n {{ INTERFACE {{ STATE {{ REAL x [0, 1]; }} }} IMPLEMENTATION {{ CONTINUOUS {{ x = {sign}x{sum}; }} }} }}"
         )?;
         assert_eq!(rt; judged(alloc, text.as_bytes()), wanted, "{sign}");
+    }
+    Ok(())
+}
+
+// What the compiler answers, in few words.
+fn described(alloc: Global, text: &str) -> Result<String, AllocError> {
+    let SourceFault { number, detail } = match compile(alloc, text.as_bytes()) {
+        Ok(_) => return format!(in alloc; "a system"),
+        Err(fault) => fault,
+    };
+    match detail {
+        Detail::At(Place { line, col, .. }) => format!(in alloc; "{number} {line}:{col}"),
+        Detail::Named(name) => {
+            let name = name.text();
+            format!(in alloc; "{number} {name}")
+        }
+        Detail::Names(_) => format!(in alloc; "{number} names"),
+        Detail::Ends(Place { line, col, .. }, low, high) => {
+            format!(in alloc; "{number} {line}:{col} {} {}", low.num(), high.num())
+        }
+        Detail::Literal(Place { line, col, .. }) => {
+            format!(in alloc; "{number} {line}:{col} literal")
+        }
+        Detail::Range(Place { line, col, .. }, Lost { op, left, right }) => {
+            let op = if op == Op::Add { "+" } else { "other" };
+            format!(in alloc; "{number} {line}:{col} {} {op} {}", left.num(), right.num())
+        }
+        Detail::Tolerance(Place { line, col, .. }, value) => {
+            format!(in alloc; "{number} {line}:{col} {}", value.num())
+        }
+        Detail::Limit(kind) => format!(in alloc; "{number} {kind:?}"),
+        Detail::Memory => format!(in alloc; "memory"),
+    }
+}
+
+const TYPING: [(&str, &str); 25] = [
+    (
+        "SYSTEM t { INTERFACE { STATE {\nREAL x [0, 1], x [0, 1]; } } IMPLEMENTATION { } }",
+        "5 2:16",
+    ),
+    (
+        "SYSTEM t { INTERFACE { STATE { REAL x [0, 1]; } } IMPLEMENTATION { CONTINUOUS {\nx = 1 + z; } } }",
+        "6 2:9",
+    ),
+    (
+        "SYSTEM t { INTERFACE { PARAMETER {\nREAL a = b, b = 1; } } IMPLEMENTATION { } }",
+        "6 2:10",
+    ),
+    (
+        "SYSTEM k { INTERFACE { STATE { REAL x [0, 10]; }\nINPUT { REAL y [0, 1]; BOOL a; } } IMPLEMENTATION { CONTINUOUS {\nx = a + 1;\n} } }",
+        "7 3:7",
+    ),
+    (
+        "SYSTEM k { INTERFACE { STATE { REAL x [0, 10]; }\nINPUT { REAL y [0, 1]; BOOL a; } } IMPLEMENTATION { CONTINUOUS {\nx = x * y;\n} } }",
+        "8 3:7",
+    ),
+    (
+        "SYSTEM k { INTERFACE { STATE { REAL x [0, 10]; }\nINPUT { REAL y [0, 1]; BOOL a; } } IMPLEMENTATION { CONTINUOUS {\nx = x / (2 - 2);\n} } }",
+        "9 3:7",
+    ),
+    (
+        "SYSTEM t { INTERFACE { STATE {\nREAL x; } } IMPLEMENTATION { } }",
+        "10 2:6",
+    ),
+    (
+        "SYSTEM p { INTERFACE { STATE { REAL x [3, 2]; } } IMPLEMENTATION { CONTINUOUS { x = x; } } }",
+        "11 1:37 3 2",
+    ),
+    (
+        "SYSTEM p { INTERFACE { STATE { REAL x [3, 3]; } } IMPLEMENTATION { CONTINUOUS { x = x; } } }",
+        "a system",
+    ),
+    (
+        "SYSTEM t { INTERFACE { PARAMETER {\nREAL a; } } IMPLEMENTATION { } }",
+        "12 2:6",
+    ),
+    (
+        "SYSTEM t { INTERFACE { STATE { REAL x [0, 1]; } } IMPLEMENTATION { } }",
+        "13 x",
+    ),
+    (
+        "SYSTEM t { INTERFACE { STATE { REAL x [0, 1]; } } IMPLEMENTATION { CONTINUOUS {\nx = 1;\nx = 2; } } }",
+        "14 3:1",
+    ),
+    (
+        "SYSTEM t { INTERFACE { INPUT { REAL u [0, 1]; } } IMPLEMENTATION { CONTINUOUS {\nu = 1; } } }",
+        "15 2:1",
+    ),
+    (
+        "SYSTEM p { INTERFACE { STATE { REAL x [0, 1e-19]; } } IMPLEMENTATION { CONTINUOUS { x = x; } } }",
+        "17 1:43 literal",
+    ),
+    (
+        "SYSTEM p { INTERFACE { STATE { REAL x [0, 9223372036854775808]; } } IMPLEMENTATION { CONTINUOUS { x = x; } } }",
+        "17 1:43 literal",
+    ),
+    (
+        "SYSTEM p { INTERFACE { STATE {\nREAL x [0, 9223372036854775807 + 1]; } } IMPLEMENTATION { CONTINUOUS { x = x; } } }",
+        "17 2:32 9223372036854775807 + 1",
+    ),
+    (
+        "SYSTEM t { INTERFACE { STATE { REAL x [0, 1]; } } IMPLEMENTATION { AUX { BOOL d; } AD {\nd = x >= 1 [0]; } CONTINUOUS { x = x; } } }",
+        "20 2:1 0",
+    ),
+    // Two faults: names before values, boxes before items, the left name before the right side, operands before their
+    // operator, items before names that none defines, and all of these before what isn't built yet.
+    (
+        "SYSTEM t { INTERFACE { PARAMETER {\nREAL a, a; } } IMPLEMENTATION { } }",
+        "5 2:9",
+    ),
+    (
+        "SYSTEM t { INTERFACE { STATE { REAL x [3, 2]; } } IMPLEMENTATION { CONTINUOUS { x = z; } } }",
+        "11 1:37 3 2",
+    ),
+    (
+        "SYSTEM t { INTERFACE { STATE { REAL x [0, 1]; } } IMPLEMENTATION { CONTINUOUS {\nx = 1;\nx = z; } } }",
+        "14 3:1",
+    ),
+    (
+        "SYSTEM t { INTERFACE { STATE { REAL x [0, 1]; } } IMPLEMENTATION { CONTINUOUS {\nx = x * (x + z); } } }",
+        "6 2:14",
+    ),
+    (
+        "SYSTEM t { INTERFACE { STATE { REAL y [0, 1], x [0, 1]; } } IMPLEMENTATION { CONTINUOUS {\nx = z; } } }",
+        "6 2:5",
+    ),
+    (
+        "SYSTEM t { INTERFACE { OUTPUT { REAL y; } } IMPLEMENTATION { } }",
+        "13 y",
+    ),
+    (
+        "SYSTEM t { INTERFACE { STATE { REAL x [0, 1]; } } IMPLEMENTATION { AUX { BOOL d; } AD {\nd = z >= 1 [0]; } CONTINUOUS { x = x; } } }",
+        "6 2:5",
+    ),
+    (
+        "SYSTEM t { INTERFACE { PARAMETER {\nREAL a = 1; } } IMPLEMENTATION { } }",
+        "19 1:24",
+    ),
+];
+
+#[test]
+fn typing_faults(rt: HostRuntime) -> Result<(), Fail> {
+    let alloc = rt.alloc();
+    for (text, wanted) in TYPING {
+        let got = described(alloc, text)?;
+        assert_eq!(rt; got.as_str(), wanted, "{text}");
+    }
+    Ok(())
+}
+
+// With 200 names the source is one that isn't built yet.
+#[test]
+fn limit_on_names(rt: HostRuntime) -> Result<(), Fail> {
+    let alloc = rt.alloc();
+    for (count, wanted) in [
+        (200, Answer::Placed(19, 1, 32)),
+        (201, Answer::Over(LimitKind::Names)),
+    ] {
+        let mut names = String::new(alloc);
+        for number in 0..count {
+            let name = format!(in alloc; "BOOL a{number}; ")?;
+            names.push_str(name.as_str())?;
+        }
+        let text = format!(in alloc;
+            "SYSTEM n {{ INTERFACE {{ INPUT {{ {names} }} }} IMPLEMENTATION {{ }} }}"
+        )?;
+        assert_eq!(rt; judged(alloc, text.as_bytes()), wanted, "{count}");
     }
     Ok(())
 }
