@@ -1,6 +1,7 @@
 use crate::{Detail, LimitKind, SourceFault, compile};
 use hys_ast::Place;
-use hys_lin::{Lost, Op};
+use hys_frac::Frac;
+use hys_lin::Op;
 use std::alloc::{AllocError, Global};
 use std::process::Abort;
 use std::test::Fail;
@@ -246,34 +247,59 @@ fn limits_on_nodes(rt: HostRuntime) -> Result<(), Fail> {
     Ok(())
 }
 
-// What the compiler answers, in few words.
-fn described(alloc: Global, text: &str) -> Result<String, AllocError> {
-    let SourceFault { number, detail } = match compile(alloc, text.as_bytes()) {
-        Ok(_) => return format!(in alloc; "a system"),
-        Err(fault) => fault,
-    };
+// The number of a fault with its place.
+fn placed(alloc: Global, number: u8, place: Place) -> Result<String, AllocError> {
+    format!(in alloc; "{number} {}:{}", place.line, place.col)
+}
+
+// A fault that shows two numbers, in few words.
+fn with_numbers(alloc: Global, front: &str, left: Frac, right: Frac) -> Result<String, AllocError> {
+    let left = left.num();
+    let right = right.num();
+    format!(in alloc; "{front} {left} {right}")
+}
+
+// A fault in few words.
+fn in_words(alloc: Global, number: u8, detail: &Detail) -> Result<String, AllocError> {
     match detail {
-        Detail::At(Place { line, col, .. }) => format!(in alloc; "{number} {line}:{col}"),
+        Detail::At(place) => placed(alloc, number, *place),
         Detail::Named(name) => {
             let name = name.text();
             format!(in alloc; "{number} {name}")
         }
         Detail::Names(_) => format!(in alloc; "{number} names"),
-        Detail::Ends(Place { line, col, .. }, low, high) => {
-            format!(in alloc; "{number} {line}:{col} {} {}", low.num(), high.num())
+        Detail::Ends(place, low, high) => {
+            let front = placed(alloc, number, *place)?;
+            with_numbers(alloc, front.as_str(), *low, *high)
         }
-        Detail::Literal(Place { line, col, .. }) => {
-            format!(in alloc; "{number} {line}:{col} literal")
+        Detail::Literal(place) => {
+            let front = placed(alloc, number, *place)?;
+            format!(in alloc; "{front} literal")
         }
-        Detail::Range(Place { line, col, .. }, Lost { op, left, right }) => {
-            let op = if op == Op::Add { "+" } else { "other" };
-            format!(in alloc; "{number} {line}:{col} {} {op} {}", left.num(), right.num())
+        Detail::Range(place, lost) => {
+            let front = placed(alloc, number, *place)?;
+            let is_sum = lost.op == Op::Add;
+            let front = format!(in alloc; "{front} {is_sum}")?;
+            with_numbers(alloc, front.as_str(), lost.left, lost.right)
         }
-        Detail::Tolerance(Place { line, col, .. }, value) => {
-            format!(in alloc; "{number} {line}:{col} {}", value.num())
+        Detail::Tolerance(place, value) => {
+            let front = placed(alloc, number, *place)?;
+            let value = value.num();
+            format!(in alloc; "{front} {value}")
         }
-        Detail::Limit(kind) => format!(in alloc; "{number} {kind:?}"),
+        Detail::Limit(kind) => {
+            let kind = *kind;
+            format!(in alloc; "{number} {kind:?}")
+        }
         Detail::Memory => format!(in alloc; "memory"),
+    }
+}
+
+// What the compiler answers, in few words.
+fn described(alloc: Global, text: &str) -> Result<String, AllocError> {
+    match compile(alloc, text.as_bytes()) {
+        Ok(_) => format!(in alloc; "a system"),
+        Err(fault) => in_words(alloc, fault.number, &fault.detail),
     }
 }
 
@@ -340,7 +366,7 @@ const TYPING: [(&str, &str); 25] = [
     ),
     (
         "SYSTEM p { INTERFACE { STATE {\nREAL x [0, 9223372036854775807 + 1]; } } IMPLEMENTATION { CONTINUOUS { x = x; } } }",
-        "17 2:32 9223372036854775807 + 1",
+        "17 2:32 true 9223372036854775807 1",
     ),
     (
         "SYSTEM t { INTERFACE { STATE { REAL x [0, 1]; } } IMPLEMENTATION { AUX { BOOL d; } AD {\nd = x >= 1 [0]; } CONTINUOUS { x = x; } } }",
