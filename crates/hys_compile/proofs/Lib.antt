@@ -48,3 +48,4 @@ pub mod Weighing
 pub mod Readable
 pub mod PlainSums
 pub mod Faultless
+pub mod OneList
