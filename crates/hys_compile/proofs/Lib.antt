@@ -49,3 +49,4 @@ pub mod Readable
 pub mod PlainSums
 pub mod Faultless
 pub mod OneList
+pub mod PlainOrders

@@ -1,6 +1,6 @@
 //! What holds of texts, of plain sources and of the systems of their parts, as calls that do nothing.
 
-ghost use Rattle.std.specs.Prelude.{◌≡◌, ◌≤◌, ℕ, List, None, length, map};
+ghost use Rattle.std.specs.Prelude.{◌≡◌, ◌≤◌, ℕ, List, [], None, length, map};
 ghost use Rattle.std.specs.List.{AllByRecursion};
 ghost use Rattle.hys_number.specs.Number.{Number};
 ghost use Rattle.hys_lex.specs.Cut.{Cut};
@@ -51,9 +51,11 @@ pub fn read_sources()
         AllByRecursion IsDeclaration s.decls }
 {}
 
-/// No check of typing fails in a plain source.
+/// In a plain source no check of typing fails, and it has no interval to find.
 pub fn plain_sources_are_typed()
-    ensures { (tokens : List Token) (s : Source) → IsPlain tokens s → fault_of s ≡ None }
+    ensures typed { (tokens : List Token) (s : Source) → IsPlain tokens s → fault_of s ≡ None }
+    ensures ranges { (tolerance : Number) (tokens : List Token) (s : Source) (p : Program) (o : Order) →
+        IsPlain tokens s → IsTranslation tolerance s p → IsOrder p o → range_numbers p o ≡ [] }
 {}
 
 /// All translations of a source at a tolerance have the same numbers of intervals along their orders,
