@@ -49,3 +49,5 @@ pub mod Readable
 pub mod PlainSums
 pub mod Usual
 pub mod Faultless
+pub mod OneList
+pub mod PlainOrders
