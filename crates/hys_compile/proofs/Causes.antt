@@ -1,5 +1,5 @@
 -- From what the parts of the compiler find to the causes that it answers.
-use Rattle.std.proofs.Common.{◌≡◌, ℕ, ◌<◌, ◌≤◌, List, length, sym, subst, ap, ◌∙◌, inl, inr, arith}
+use Rattle.std.proofs.Common.{◌≡◌, ℕ, ◌<◌, ◌≤◌, List, length, Some, None, Result, Err, ◌⊎◌, sym, subst, ap, ◌∙◌, inl, inr, refl, arith}
 use Rattle.hys_lex.specs.Cut.{IsFirstFault}
 use Rattle.hys_lex.specs.declared.token.Token.{Token}
 use Rattle.hys_lex.specs.declared.cut.LexFault.TheVariants as lexing
@@ -10,12 +10,16 @@ use Rattle.hys_ast.specs.declared.count.NodeCount.{NodeCount}
 use Rattle.hys_parse.specs.Depth.{IsFirstDeep}
 use Rattle.hys_parse.specs.Cause.{IsUngrammatical}
 use Rattle.hys_ast.specs.declared.place.Place.{Place}
+use Rattle.hys_type.specs.Faults.{Check, Answers, first_fault}
+use Rattle.hys_type.specs.Checks.{checks, fault_of}
+use Rattle.hys_type.specs.declared.fault.TypeFault.{TypeFault}
+use Rattle.hys_type.specs.declared.fault.TypeFault.TheVariants as typing
 use Rattle.hys_plain.specs.Plain.{IsPlain, unbuilt_place}
 use Rattle.hys_compile.specs.declared.fault.SourceFault.{SourceFault}
 use Rattle.hys_compile.specs.declared.fault.LimitKind.TheVariants as limit
 use Rattle.hys_compile.specs.declared.number.TheConstants as number
-use Rattle.hys_compile.specs.Faults.{fault_at, over_limit, no_memory}
-use Rattle.hys_compile.specs.Text.{most_bytes, most_tokens, most_nodes, most_nodes_of_one, byte_of, IsLexed, IsCounted, IsParsed, IsMeasured, IsCause, IsRefusal, too_long, byte, comment, long, many, deep, syntax, nodes, expression, unbuilt}
+use Rattle.hys_compile.specs.Faults.{fault_at, over_limit, no_memory, shown}
+use Rattle.hys_compile.specs.Text.{most_bytes, most_tokens, most_nodes, most_nodes_of_one, byte_of, IsLexed, IsCounted, IsParsed, IsMeasured, IsTyped, IsCause, IsRefusal, too_long, byte, comment, long, many, deep, syntax, nodes, expression, typed, unbuilt}
 
 pub by_bytes : (text : List ℕ) (f : SourceFault) → f ≡ over_limit limit.Bytes → most_bytes < length text → IsRefusal text f
 by_bytes text f e h = inr (subst (IsCause text) (sym e) (too_long h))
@@ -47,5 +51,35 @@ by_nodes text tokens tree c f e h count more = inr (subst (IsCause text) (sym e)
 pub by_expression : (text : List ℕ) (tokens : List Token) (tree : Source) (c : NodeCount) (f : SourceFault) → f ≡ over_limit limit.Expression → IsParsed text tokens tree → IsCountOf (expressions tree) c → c.total ≤ most_nodes → most_nodes_of_one < c.largest → IsRefusal text f
 by_expression text tokens tree c f e h count few more = inr (subst (IsCause text) (sym e) (expression tokens tree h (omega (arith, count.total_is)) (omega (arith, count.largest_is))))
 
-pub by_section : (text : List ℕ) (tokens : List Token) (tree : Source) (place : Place) (f : SourceFault) → f ≡ fault_at number.NOT_YET place → IsMeasured text tokens tree → (place ≡ unbuilt_place text tokens) × (IsPlain tokens tree → ⊥) → IsRefusal text f
+is_memory : (e : TypeFault) → (e ≡ typing.Memory) ⊎ (¬ (e ≡ typing.Memory))
+is_memory (typing.Twice p) = inr (λ e. absurd (cc))
+is_memory typing.Limit = inr (λ e. absurd (cc))
+is_memory (typing.NoValue p) = inr (λ e. absurd (cc))
+is_memory (typing.NoBounds p) = inr (λ e. absurd (cc))
+is_memory (typing.EmptyBounds p a b) = inr (λ e. absurd (cc))
+is_memory (typing.Unknown p) = inr (λ e. absurd (cc))
+is_memory (typing.WrongSection p) = inr (λ e. absurd (cc))
+is_memory (typing.DefinedTwice p) = inr (λ e. absurd (cc))
+is_memory (typing.Kind p) = inr (λ e. absurd (cc))
+is_memory (typing.NotLinear p) = inr (λ e. absurd (cc))
+is_memory (typing.ZeroDivisor p) = inr (λ e. absurd (cc))
+is_memory (typing.Literal p) = inr (λ e. absurd (cc))
+is_memory (typing.Range p l) = inr (λ e. absurd (cc))
+is_memory (typing.Tolerance p a) = inr (λ e. absurd (cc))
+is_memory (typing.Missing n) = inr (λ e. absurd (cc))
+is_memory typing.Memory = inl refl
+
+pub by_typing : (text : List ℕ) (tokens : List Token) (tree : Source) (e : TypeFault) (f : SourceFault) → f ≡ shown e → IsMeasured text tokens tree → (¬ (e ≡ typing.Memory) → Some e ≡ first_fault (checks tree)) → IsRefusal text f
+by_typing text tokens tree e f s h found = elim (is_memory e) [
+  | inl m ↦ inl (s ∙ ap shown m)
+  | inr n ↦ inr (subst (IsCause text) (sym s) (typed tokens tree e h (sym (found n))))
+]
+
+pub answered : {T : Type 0} (r : Result T TypeFault) (e : TypeFault) (cs : List Check) → r ≡ Err e → Answers r cs → ¬ (e ≡ typing.Memory) → Some e ≡ first_fault cs
+answered {T = T} r e cs i h = let A : Result T TypeFault → Type 0 = λ x. Answers x cs in subst A i h
+
+pub passes_typing : (text : List ℕ) (tokens : List Token) (tree : Source) → IsMeasured text tokens tree → None ≡ first_fault (checks tree) → IsTyped text tokens tree
+passes_typing text tokens tree h none = record { measured = h; faultless = sym none }
+
+pub by_section : (text : List ℕ) (tokens : List Token) (tree : Source) (place : Place) (f : SourceFault) → f ≡ fault_at number.NOT_YET place → IsTyped text tokens tree → (place ≡ unbuilt_place text tokens) × (IsPlain tokens tree → ⊥) → IsRefusal text f
 by_section text tokens tree place f e h (p, other) = inr (subst (IsCause text) (sym (e ∙ ap (fault_at number.NOT_YET) p)) (unbuilt tokens tree h other))

@@ -1,5 +1,5 @@
 -- A plain source has no fault of typing.
-use Rattle.std.proofs.Common.{◌≡◌, ℕ, suc, ◌+◌, ◌<◌, ◌≤◌, List, [], ◌∷◌, ◌++◌, length, map, Bool, true, false, true≢false, ◌||◌, ◌&&◌, not, inl, inr, cond, IsTrue, Option, Some, None, is_none, refl, sym, ◌∙◌, ap, ap₂, subst, arith, tests, nat_lt, nat_le, bytes_eq, count_by}
+use Rattle.std.proofs.Common.{◌≡◌, ℕ, suc, ◌+◌, ◌<◌, ◌≤◌, List, [], ◌∷◌, ◌++◌, length, map, Bool, true, false, true≢false, ◌||◌, not, inl, inr, cond, IsTrue, Option, Some, None, refl, sym, ◌∙◌, ap, ap₂, subst, arith, tests, nat_lt, nat_le, bytes_eq, count_by}
 use Rattle.std.specs.List.{AllByRecursion, list_any, list_all}
 use Rattle.std.specs.declared.cmp.Ordering.{Ordering}
 use Rattle.std.specs.declared.cmp.Ordering.TheVariants.{Less, Equal, Greater}
@@ -8,7 +8,7 @@ use Rattle.std.proofs.lemmas.Bool.{and_parts, or_cases}
 use Rattle.std.proofs.lemmas.List.{append_assoc}
 use Rattle.std.proofs.lemmas.Slice.Eq.{bytes_eq-Decides}
 use Rattle.hys_number.specs.Number.{Number}
-use Rattle.hys_number.specs.Ops.{◌≤ₙ◌, ◌<ₙ◌, fits}
+use Rattle.hys_number.specs.Ops.{◌≤ₙ◌, ◌<ₙ◌}
 use Rattle.hys_number.proofs.Field.{not-le}
 use Rattle.hys_frac.specs.Compare.{number_cmp, number_ranks}
 use Rattle.hys_lex.specs.declared.token.Token.{Token}
@@ -19,23 +19,22 @@ use Rattle.hys_ast.specs.declared.source.Section.TheVariants as section
 use Rattle.hys_ast.specs.declared.source.Kind.TheVariants as kind
 use Rattle.hys_ast.specs.Tree.{Tree, Decl, Shape, Item, Source}
 use Rattle.hys_ast.specs.Tree as tree
-use Rattle.hys_meaning.specs.Values.{Assignment, literal, value}
-use Rattle.hys_meaning.specs.Names.{Name, look, name_of, names, parameters, is_parameter, is_output, is_state}
+use Rattle.hys_meaning.specs.Values.{Assignment, value}
+use Rattle.hys_meaning.specs.Names.{Name, look, name_of, parameters, is_parameter, is_output, is_state}
 use Rattle.hys_meaning.specs.Bodies.{body_in}
 use Rattle.hys_meaning.specs.Typed.{differ, defines, is_defined, has_box, is_left, suits, IsBox, LeftTyped}
 use Rattle.hys_meaning.specs.Typed as typed
-use Rattle.hys_plain.specs.Plain.{IsPlain, is_short, is_literal, is_signed_literal, is_sum, is_end, is_plain_item, is_plain_shape, is_plain_decl, names_in, lone_literals, declared_texts}
+use Rattle.hys_plain.specs.Plain.{IsPlain, is_signed_literal, is_sum, is_end, is_plain_item, is_plain_shape, is_plain_decl, names_in, lone_literals, declared_texts}
 use Rattle.hys_plain.proofs.Ends.{signed_literal_is, plain_box}
 use Rattle.hys_plain.proofs.Names.{count_cons, count_append}
 use Rattle.hys_type.specs.Sorts.{is_real}
-use Rattle.hys_type.specs.Faults.{Check, check, first_fault}
+use Rattle.hys_type.specs.Faults.{Check, check}
 use Rattle.hys_type.specs.Walks.{walk}
-use Rattle.hys_type.specs.Constants.{constant_checks, known_values}
-use Rattle.hys_type.specs.Declarations.{name_checks, value_checks, parameter_checks, constant_of_kind, given_bounds_checks, ends_checks, box_checks, at_most, known, if_some}
-use Rattle.hys_type.specs.Nodes.{is_declared, sort, node_checks}
+use Rattle.hys_type.specs.Constants.{known_values}
+use Rattle.hys_type.specs.Declarations.{name_checks, value_checks, constant_of_kind, given_bounds_checks, ends_checks, box_checks, at_most, known, if_some}
+use Rattle.hys_type.specs.Nodes.{is_declared, node_checks}
 use Rattle.hys_type.specs.Checks.{Scope, scope, left_checks, right_checks, left_name, item_checks, missing_checks, checks, fault_of}
 use Rattle.hys_type.specs.declared.constant.Known.{Known}
-use Rattle.hys_type.specs.declared.fault.TypeFault.{TypeFault}
 use Rattle.hys_type.specs.declared.fault.TypeFault.TheVariants as fault
 use Rattle.hys_compile.proofs.Declared.{IsPlainName, IsPlainDecl, plain_decl, plain_names, texts_are, other}
 use Rattle.hys_compile.proofs.Items.{each_both, section_of, once}

@@ -47,4 +47,7 @@ pub mod Answered
 pub mod Weighing
 pub mod Readable
 pub mod PlainSums
+pub mod Usual
 pub mod Faultless
+pub mod OneList
+pub mod PlainOrders

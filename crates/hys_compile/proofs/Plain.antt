@@ -1,5 +1,5 @@
 -- A plain text has no cause to be refused.
-use Rattle.std.proofs.Common.{◌≡◌, ℕ, ◌<◌, List, length, sym, subst, arith}
+use Rattle.std.proofs.Common.{◌≡◌, ℕ, ◌<◌, List, length, Some, None, sym, ◌∙◌, ap, subst, arith}
 use Rattle.hys_lex.specs.Cut.{Cut, IsFirstFault}
 use Rattle.hys_lex.specs.declared.token.Token.{Token}
 use Rattle.hys_lex.specs.declared.cut.LexFault.{LexFault}
@@ -9,9 +9,12 @@ use Rattle.hys_ast.specs.Grammar.{IsTreeOf}
 use Rattle.hys_ast.specs.Nodes.{expressions, total, largest}
 use Rattle.hys_parse.specs.Depth.{IsFirstDeep}
 use Rattle.hys_parse.specs.Cause.{IsUngrammatical}
+use Rattle.hys_type.specs.Checks.{fault_of}
+use Rattle.hys_type.specs.declared.fault.TypeFault.{TypeFault}
 use Rattle.hys_plain.specs.Plain.{IsPlain}
+use Rattle.hys_compile.proofs.Faultless.{plain_passes_checks}
 use Rattle.hys_compile.specs.declared.fault.SourceFault.{SourceFault}
-use Rattle.hys_compile.specs.Text.{most_tokens, most_nodes, most_nodes_of_one, IsLexed, IsParsed, IsMeasured, IsCause, too_long, byte, comment, long, many, deep, syntax, nodes, expression, unbuilt}
+use Rattle.hys_compile.specs.Text.{most_tokens, most_nodes, most_nodes_of_one, IsLexed, IsParsed, IsMeasured, IsCause, too_long, byte, comment, long, many, deep, syntax, nodes, expression, typed, unbuilt}
 
 -- what holds of cuts and trees
 pub record AreOnly (text : List ℕ) : Type 0 where
@@ -53,7 +56,12 @@ plain_passes text tokens tree f only m plain (expression ts t h few more) =
     let s : t ≡ tree = same_tree text ts tokens t tree only h m.parsed e in
     let more' : most_nodes_of_one < largest (expressions tree) = subst (λ z. most_nodes_of_one < largest (expressions z)) s more in
     absurd (omega (arith, m.expression))
-plain_passes text tokens tree f only m plain (unbuilt ts t h other) =
+plain_passes text tokens tree f only m plain (typed ts t fault h found) =
     let e : ts ≡ tokens = same_cut text ts tokens only h.parsed.counted.lexed m.parsed.counted.lexed in
     let s : t ≡ tree = same_tree text ts tokens t tree only h.parsed m.parsed e in
+    let same : Some fault ≡ None = sym found ∙ ap fault_of s ∙ plain_passes_checks tokens tree plain in
+    absurd (cc)
+plain_passes text tokens tree f only m plain (unbuilt ts t h other) =
+    let e : ts ≡ tokens = same_cut text ts tokens only h.measured.parsed.counted.lexed m.parsed.counted.lexed in
+    let s : t ≡ tree = same_tree text ts tokens t tree only h.measured.parsed m.parsed e in
     absurd (other (subst (λ z. IsPlain z t) (sym e) (subst (λ z. IsPlain tokens z) (sym s) plain)))

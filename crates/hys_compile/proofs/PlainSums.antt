@@ -1,5 +1,5 @@
 -- The checks of a sum of a plain source: none fails, since names stand once in it and literals are short.
-use Rattle.std.proofs.Common.{◌≡◌, ℕ, zero, suc, ◌+◌, ◌-◌, ◌<◌, ◌≤◌, List, [], ◌∷◌, ◌++◌, length, take, get_or, Bool, true, false, true≢false, ◌||◌, ◌&&◌, not, ◌⊎◌, inl, inr, cond, IsTrue, Option, Some, None, refl, sym, ◌∙◌, ap, ap₂, subst, arith, tests, nat_le, bytes_eq}
+use Rattle.std.proofs.Common.{◌≡◌, ℕ, zero, suc, ◌+◌, ◌-◌, ◌<◌, ◌≤◌, List, [], ◌∷◌, ◌++◌, length, take, get_or, Bool, true, false, true≢false, ◌||◌, ◌&&◌, not, ◌⊎◌, inl, inr, cond, Some, None, refl, sym, ◌∙◌, ap, ap₂, subst, arith, tests, nat_le, bytes_eq}
 use Rattle.std.specs.List.{AllByRecursion, list_any, list_all}
 use Rattle.std.specs.Str.Parse.{digits_value}
 use Rattle.std.proofs.lemmas.Bool.{and_parts, or_cases}
@@ -9,7 +9,7 @@ use Rattle.hys_number.specs.Number.{Number, make}
 use Rattle.hys_number.specs.Gcd.{gcd}
 use Rattle.hys_number.specs.Ops.{◌+ₙ◌, ◌*ₙ◌, neg, whole, fits}
 use Rattle.hys_number.proofs.Field.{add_zero, mul_zero, mul_one}
-use Rattle.hys_number.proofs.Cancel.{zero_add, zero_mul, neg_add'}
+use Rattle.hys_number.proofs.Cancel.{zero_add, neg_add'}
 use Rattle.hys_number.proofs.Signs.{whole_parts, fits_neg}
 use Rattle.hys_frac.proofs.Fracs.{fits_yes}
 use Rattle.hys_lin.specs.declared.lost.Lost.{Lost}
@@ -17,7 +17,6 @@ use Rattle.hys_lin.specs.Operations.{outcome, plus, minus, times}
 use Rattle.hys_lex.specs.Bytes.{is_digit}
 use Rattle.hys_ast.specs.declared.place.Place.{Place}
 use Rattle.hys_ast.specs.declared.tree.UnaryOp.TheVariants as unary
-use Rattle.hys_ast.specs.declared.tree.BinaryOp.{BinaryOp}
 use Rattle.hys_ast.specs.declared.tree.BinaryOp.TheVariants as binary
 use Rattle.hys_ast.specs.declared.source.Kind.TheVariants as kind
 use Rattle.hys_ast.specs.Tree.{Tree}
@@ -25,12 +24,12 @@ use Rattle.hys_ast.specs.Tree as tree
 use Rattle.hys_meaning.specs.Values.{literal}
 use Rattle.hys_meaning.specs.Names.{Name, look, is_output, is_parameter}
 use Rattle.hys_meaning.specs.Forms.{Form, form, number_form, unit_form, parameter_or, looked_up, combined, product}
-use Rattle.hys_meaning.specs.Folding.{each, is_zero, is_constant, multiplied, folding}
+use Rattle.hys_meaning.specs.Folding.{each, is_zero, is_constant, multiplied}
 use Rattle.hys_meaning.specs.Typed.{differ}
 use Rattle.hys_plain.specs.Plain.{is_short, is_literal, is_signed_literal, is_name, is_part, is_sum, names_in, lone_literals}
 use Rattle.hys_plain.proofs.Literals.{DigitHere, digit_here, number_of}
 use Rattle.hys_type.specs.Sorts.{Sort, Real, is_real, sort_of_kind}
-use Rattle.hys_type.specs.Faults.{Check, check, first_fault, in_range}
+use Rattle.hys_type.specs.Faults.{Check, first_fault, in_range}
 use Rattle.hys_type.specs.Nodes.{sort, sort_of_name, is_declared, may_stand, linear_checks, operator_checks, node_checks}
 
 -- ---- checks of which none fails

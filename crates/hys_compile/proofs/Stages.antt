@@ -1,5 +1,5 @@
 -- The causes of a text by the stage at which it is refused: at most one stage stands.
-use Rattle.std.proofs.Common.{◌≡◌, ℕ, ◌<◌, ◌≤◌, ◌⊎◌, List, length, refl, sym, subst, ◌∙◌, inl, inr, arith}
+use Rattle.std.proofs.Common.{◌≡◌, ℕ, ◌<◌, ◌≤◌, ◌⊎◌, List, length, Some, None, refl, sym, subst, ◌∙◌, inl, inr, arith}
 use Rattle.hys_lex.specs.Cut.{Cut, IsFirstFault}
 use Rattle.hys_lex.specs.declared.token.Token.{Token}
 use Rattle.hys_lex.specs.declared.cut.LexFault.{LexFault}
@@ -10,12 +10,14 @@ use Rattle.hys_ast.specs.Grammar.{IsTreeOf}
 use Rattle.hys_ast.specs.Nodes.{expressions, total, largest}
 use Rattle.hys_parse.specs.Depth.{IsFirstDeep, IsShallow}
 use Rattle.hys_parse.specs.Cause.{IsUngrammatical}
+use Rattle.hys_type.specs.Checks.{fault_of}
+use Rattle.hys_type.specs.declared.fault.TypeFault.{TypeFault}
 use Rattle.hys_plain.specs.Plain.{IsPlain, unbuilt_place}
 use Rattle.hys_compile.specs.declared.fault.SourceFault.{SourceFault}
 use Rattle.hys_compile.specs.declared.fault.LimitKind.TheVariants as limit
 use Rattle.hys_compile.specs.declared.number.TheConstants as number
-use Rattle.hys_compile.specs.Faults.{fault_at, over_limit, no_memory}
-use Rattle.hys_compile.specs.Text.{most_bytes, most_tokens, most_nodes, most_nodes_of_one, byte_of, IsCause, too_long, byte, comment, long, many, deep, syntax, nodes, expression, unbuilt}
+use Rattle.hys_compile.specs.Faults.{fault_at, over_limit, no_memory, shown}
+use Rattle.hys_compile.specs.Text.{most_bytes, most_tokens, most_nodes, most_nodes_of_one, byte_of, IsCause, too_long, byte, comment, long, many, deep, syntax, nodes, expression, typed, unbuilt}
 use Rattle.hys_compile.proofs.Plain.{AreOnly}
 
 lexical : List ℕ → LexFault → SourceFault
@@ -28,8 +30,11 @@ lexical text lexing.Memory = no_memory
 abbrev Judged : List ℕ → List Token → Source → SourceFault → Type 0
 Judged text ts t f = ¬ (IsPlain ts t) × (f ≡ fault_at number.NOT_YET (unbuilt_place text ts))
 
+abbrev Typed : List ℕ → List Token → Source → SourceFault → Type 0
+Typed text ts t f = ((e : TypeFault) × (fault_of t ≡ Some e) × (f ≡ shown e)) ⊎ ((fault_of t ≡ None) × Judged text ts t f)
+
 abbrev Sized : List ℕ → List Token → Source → SourceFault → Type 0
-Sized text ts t f = ((most_nodes_of_one < largest (expressions t)) × (f ≡ over_limit limit.Expression)) ⊎ ((largest (expressions t) ≤ most_nodes_of_one) × Judged text ts t f)
+Sized text ts t f = ((most_nodes_of_one < largest (expressions t)) × (f ≡ over_limit limit.Expression)) ⊎ ((largest (expressions t) ≤ most_nodes_of_one) × Typed text ts t f)
 
 abbrev Measured : List ℕ → List Token → Source → SourceFault → Type 0
 Measured text ts t f = ((most_nodes < total (expressions t)) × (f ≡ over_limit limit.Nodes)) ⊎ ((total (expressions t) ≤ most_nodes) × Sized text ts t f)
@@ -61,18 +66,46 @@ staged text f (syntax ts k h u) = inr (h.lexed.bytes, inr (ts, h.lexed.cut, inr 
 staged text f (nodes ts t h more) = inr (h.counted.lexed.bytes, inr (ts, h.counted.lexed.cut, inr (h.counted.few, inr (h.shallow, inr (t, h.derived, inl (more, refl))))))
 staged text f (expression ts t h few more) =
     inr (h.counted.lexed.bytes, inr (ts, h.counted.lexed.cut, inr (h.counted.few, inr (h.shallow, inr (t, h.derived, inr (few, inl (more, refl)))))))
+staged text f (typed ts t e h found) =
+    inr (h.parsed.counted.lexed.bytes, inr (ts, h.parsed.counted.lexed.cut, inr (h.parsed.counted.few, inr (h.parsed.shallow, inr (t, h.parsed.derived, inr (h.nodes, inr (h.expression, inl (e, found, refl))))))))
 staged text f (unbuilt ts t h other) =
-    inr (h.parsed.counted.lexed.bytes, inr (ts, h.parsed.counted.lexed.cut, inr (h.parsed.counted.few, inr (h.parsed.shallow, inr (t, h.parsed.derived, inr (h.nodes, inr (h.expression, (other, refl))))))))
+    inr (
+      h.measured.parsed.counted.lexed.bytes,
+      inr (
+        ts,
+        h.measured.parsed.counted.lexed.cut,
+        inr (
+          h.measured.parsed.counted.few,
+          inr (
+            h.measured.parsed.shallow,
+            inr (
+              t,
+              h.measured.parsed.derived,
+              inr (h.measured.nodes, inr (h.measured.expression, inr (h.faultless, (other, refl)))),
+            ),
+          ),
+        ),
+      ),
+    )
 
 -- ---- two faults at each stage
 same : (f g h : SourceFault) → f ≡ h → g ≡ h → f ≡ g
 same f g h a b = a ∙ sym b
 
+some_fault : (e d : TypeFault) → Some e ≡ Some d → e ≡ d
+some_fault e d h = cc
+
+typed_alike : (text : List ℕ) (ts : List Token) (t : Source) (f g : SourceFault) → Typed text ts t f → Typed text ts t g → f ≡ g
+typed_alike text ts t f g (inl (e, m, a)) (inl (d, n, b)) = same f g (shown e) a (subst (λ x. g ≡ shown x) (some_fault d e (sym n ∙ m)) b)
+typed_alike text ts t f g (inl (e, m, a)) (inr (n, b)) = let no : Some e ≡ None = sym m ∙ n in absurd (cc)
+typed_alike text ts t f g (inr (m, a)) (inl (d, n, b)) = let no : Some d ≡ None = sym n ∙ m in absurd (cc)
+typed_alike text ts t f g (inr (m, (p, a))) (inr (n, (q, b))) = same f g (fault_at number.NOT_YET (unbuilt_place text ts)) a b
+
 sized : (text : List ℕ) (ts : List Token) (t : Source) (f g : SourceFault) → Sized text ts t f → Sized text ts t g → f ≡ g
 sized text ts t f g (inl (m, a)) (inl (n, b)) = same f g (over_limit limit.Expression) a b
 sized text ts t f g (inl (m, a)) (inr (n, b)) = absurd (omega arith)
 sized text ts t f g (inr (m, a)) (inl (n, b)) = absurd (omega arith)
-sized text ts t f g (inr (m, (p, a))) (inr (n, (q, b))) = same f g (fault_at number.NOT_YET (unbuilt_place text ts)) a b
+sized text ts t f g (inr (m, a)) (inr (n, b)) = typed_alike text ts t f g a b
 
 measured : (text : List ℕ) (ts : List Token) (t : Source) (f g : SourceFault) → Measured text ts t f → Measured text ts t g → f ≡ g
 measured text ts t f g (inl (m, a)) (inl (n, b)) = same f g (over_limit limit.Nodes) a b

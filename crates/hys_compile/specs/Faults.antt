@@ -5,6 +5,9 @@ use Rattle.hys_ast.specs.declared.place.Place.{Place}
 use Rattle.hys_compile.specs.declared.fault.SourceFault.{SourceFault}
 use Rattle.hys_compile.specs.declared.fault.Detail.TheVariants as detail
 use Rattle.hys_compile.specs.declared.fault.LimitKind.{LimitKind}
+use Rattle.hys_compile.specs.declared.fault.LimitKind.TheVariants as limit
+use Rattle.hys_type.specs.declared.fault.TypeFault.{TypeFault}
+use Rattle.hys_type.specs.declared.fault.TypeFault.TheVariants as typing
 
 -- the words of each fault, from number 1 on
 unfoldable pub listed : List (List ℕ)
@@ -37,3 +40,22 @@ over_limit kind = record { number = number.LIMIT; detail = detail.Limit kind }
 -- want of memory, which is no fault of the source
 abbrev pub no_memory : SourceFault
 no_memory = record { number = 0; detail = detail.Memory }
+
+-- ---- what a fault of typing shows
+abbrev pub shown : TypeFault → SourceFault
+shown (typing.Twice place) = fault_at number.TWICE place
+shown typing.Limit = over_limit limit.Names
+shown (typing.NoValue place) = fault_at number.NO_VALUE place
+shown (typing.NoBounds place) = fault_at number.NO_BOUNDS place
+shown (typing.EmptyBounds place low high) = record { number = number.EMPTY_BOUNDS; detail = detail.Ends place low high }
+shown (typing.Unknown place) = fault_at number.UNKNOWN place
+shown (typing.WrongSection place) = fault_at number.WRONG_SECTION place
+shown (typing.DefinedTwice place) = fault_at number.DEFINED_TWICE place
+shown (typing.Kind place) = fault_at number.KIND place
+shown (typing.NotLinear place) = fault_at number.NOT_LINEAR place
+shown (typing.ZeroDivisor place) = fault_at number.ZERO_DIVISOR place
+shown (typing.Literal place) = record { number = number.RANGE; detail = detail.Literal place }
+shown (typing.Range place lost) = record { number = number.RANGE; detail = detail.Range place lost }
+shown (typing.Tolerance place value) = record { number = number.TOLERANCE; detail = detail.Tolerance place value }
+shown (typing.Missing name) = record { number = number.MISSING; detail = detail.Named name }
+shown typing.Memory = no_memory

@@ -1,5 +1,5 @@
 -- The texts that are compiled, and why others are refused.
-use Rattle.std.specs.Prelude.{◌≡◌, ℕ, ◌<◌, ◌≤◌, ◌⊎◌, List, length, map, slice_index_or}
+use Rattle.std.specs.Prelude.{◌≡◌, ℕ, ◌<◌, ◌≤◌, ◌⊎◌, List, length, map, slice_index_or, Some, None}
 use Rattle.hys_number.specs.Number.{Number}
 use Rattle.hys_lex.specs.Cut.{Cut, IsFirstFault}
 use Rattle.hys_lex.specs.declared.token.Token.{Token}
@@ -12,13 +12,15 @@ use Rattle.hys_meaning.specs.Accepted.{Accepted}
 use Rattle.hys_meaning.specs.Weight.{weight}
 use Rattle.hys_parse.specs.Depth.{IsShallow, IsFirstDeep}
 use Rattle.hys_parse.specs.Cause.{IsUngrammatical}
+use Rattle.hys_type.specs.Checks.{fault_of}
+use Rattle.hys_type.specs.declared.fault.TypeFault.{TypeFault}
 use Rattle.hys_plain.specs.Plain.{IsPlain, unbuilt_place}
 use Rattle.hys_sys.specs.System.{IsSystem}
 use Rattle.hys_sys.specs.declared.system.System.{System}
 use Rattle.hys_compile.specs.Automaton.{IsExactFor}
 use Rattle.hys_compile.specs.declared.fault.SourceFault.{SourceFault}
 use Rattle.hys_compile.specs.declared.number.TheConstants as number
-use Rattle.hys_compile.specs.Faults.{fault_at, over_limit, no_memory}
+use Rattle.hys_compile.specs.Faults.{fault_at, over_limit, no_memory, shown}
 use Rattle.hys_compile.specs.declared.fault.LimitKind.TheVariants as limit
 
 -- ---- the limits
@@ -57,6 +59,11 @@ pub record IsMeasured (text : List ℕ) (tokens : List Token) (tree : Source) : 
   pub nodes : total (expressions tree) ≤ most_nodes
   pub expression : largest (expressions tree) ≤ most_nodes_of_one
 
+-- and none of its checks of typing fails
+pub record IsTyped (text : List ℕ) (tokens : List Token) (tree : Source) : Type 0 where
+  pub measured : IsMeasured text tokens tree
+  pub faultless : fault_of tree ≡ None
+
 -- the text of an accepted source
 pub record IsAcceptedText (text : List ℕ) : Type 0 where
   pub tokens : List Token
@@ -89,7 +96,9 @@ pub data IsCause (text : List ℕ) : SourceFault → Type 0 where
   nodes : (tokens : List Token) (tree : Source) → IsParsed text tokens tree → most_nodes < total (expressions tree) → IsCause text (over_limit limit.Nodes)
   expression : (tokens : List Token) (tree : Source) → IsParsed text tokens tree → total (expressions tree) ≤ most_nodes →
       most_nodes_of_one < largest (expressions tree) → IsCause text (over_limit limit.Expression)
-  unbuilt : (tokens : List Token) (tree : Source) → IsMeasured text tokens tree → ¬ (IsPlain tokens tree) → IsCause text (fault_at number.NOT_YET (unbuilt_place text tokens))
+  typed : (tokens : List Token) (tree : Source) (fault : TypeFault) → IsMeasured text tokens tree →
+      fault_of tree ≡ Some fault → IsCause text (shown fault)
+  unbuilt : (tokens : List Token) (tree : Source) → IsTyped text tokens tree → ¬ (IsPlain tokens tree) → IsCause text (fault_at number.NOT_YET (unbuilt_place text tokens))
 
 -- what an error may be: a cause of the text, or want of memory
 abbrev pub IsRefusal : List ℕ → SourceFault → Type 0

@@ -1,17 +1,20 @@
 ghost use Rattle.std.specs.Prelude.{◌≡◌, ◌⊎◌, IfOk, IfErr};
 ghost use Rattle.std.specs.Result.{IsErrAnd};
+ghost use Rattle.hys_number.specs.Ops.{◌<ₙ◌, whole};
 ghost use Rattle.hys_ast.specs.Seen.{source_of};
 ghost use Rattle.hys_plain.specs.Meant.{PartsOf};
 ghost use Rattle.hys_plain.specs.Plain.{IsPlain};
 ghost use Rattle.hys_compile.specs.Faults.{no_memory};
-ghost use Rattle.hys_compile.specs.Text.{IsCompiled, IsCause, IsRefusal, IsMeasured, IsPlainText};
+ghost use Rattle.hys_compile.specs.Text.{IsCompiled, IsCause, IsRefusal, IsTyped, IsPlainText};
 ghost use Rattle.hys_compile.specs.declared.fault.SourceFault.{SourceFault as Fault};
 
 use crate::build::build;
 use crate::fault::SourceFault;
 use crate::front::{count, lex, measure, parse, size};
+use crate::typing::translate;
 use crate::{laws, number};
 use hys_ast::Source;
+use hys_frac::Frac;
 use hys_lex::Token;
 use hys_plain::{PlainFault, PlainParts, plain};
 use hys_sys::System;
@@ -25,7 +28,7 @@ fn judge(
     tokens: &[Token],
     source: &Source,
 ) -> Result<PlainParts, SourceFault>
-    requires { IsMeasured text.now tokens.now (source_of source.now) }
+    requires { IsTyped text.now tokens.now (source_of source.now) }
     ensures plain { IfOk result (λ p. IsPlain tokens.now (source_of source.now)) }
     ensures parts { IfOk result (PartsOf (source_of source.now)) }
     ensures err { IfErr result (IsRefusal text.now) }
@@ -34,6 +37,17 @@ fn judge(
         Ok(parts) => Ok(parts),
         Err(PlainFault::NotYet(place)) => Err(SourceFault::placed(number::NOT_YET, place)),
         Err(PlainFault::Memory) => Err(SourceFault::memory()),
+    }
+}
+
+// The tolerance of guards without one of their own.
+#[tactic(auto, using(crate::proofs::Usual::thousandth, crate::proofs::Usual::one))]
+fn usual_tolerance() -> Frac
+    ensures { whole 0 <ₙ result }
+{
+    match Frac::new(1, 1000) {
+        Some(tolerance) => tolerance,
+        None => Frac::whole(1),
     }
 }
 
@@ -49,6 +63,7 @@ fn run_stages(alloc: Global, text: &[u8]) -> Result<System, SourceFault>
     count(text, tokens)?;
     let source = parse(alloc, text, tokens)?;
     measure(text, tokens, &source)?;
+    let _program = translate(alloc, text, tokens, &source, usual_tolerance())?;
     let parts = judge(alloc, text, tokens, &source)?;
     Ok(build(alloc, parts)?)
 }
@@ -65,8 +80,10 @@ fn run_stages(alloc: Global, text: &[u8]) -> Result<System, SourceFault>
 /// The first fault of the source, in this order: a text over the limit on bytes; a byte, a comment
 /// or a word that can't be cut into tokens; too many tokens; a token too deep in parentheses and
 /// signs; a token with which no source goes on; too many expression nodes, in all or in one
-/// expression; a source that isn't plain, at the first keyword that plain sources don't have, or at
-/// the front where it has none.
+/// expression; the first rule of typing that is broken: of names, of the values of parameters, of
+/// bounds, of items, each in the order of the text, and then of names that no item defines; a
+/// source that isn't plain, at the first keyword that plain sources don't have, or at the front
+/// where it has none.
 pub fn compile(alloc: Global, text: &[u8]) -> Result<System, SourceFault>
     ensures done { IfOk result (IsCompiled text.now) }
     ensures refused { IfErr result (IsRefusal text.now) }

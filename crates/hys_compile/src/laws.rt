@@ -1,6 +1,6 @@
 //! What holds of texts, of plain sources and of the systems of their parts, as calls that do nothing.
 
-ghost use Rattle.std.specs.Prelude.{◌≡◌, ◌≤◌, ℕ, List, None, length, map};
+ghost use Rattle.std.specs.Prelude.{◌≡◌, ◌≤◌, ℕ, List, [], None, length, map};
 ghost use Rattle.std.specs.List.{AllByRecursion};
 ghost use Rattle.hys_number.specs.Number.{Number};
 ghost use Rattle.hys_lex.specs.Cut.{Cut};
@@ -11,6 +11,11 @@ ghost use Rattle.hys_ast.specs.Nodes.{nodes, total, expressions};
 ghost use Rattle.hys_meaning.specs.Accepted.{Accepted};
 ghost use Rattle.hys_type.specs.Checks.{fault_of, HasSourceLiterals};
 ghost use Rattle.hys_type.specs.Declaring.{IsDeclaration};
+ghost use Rattle.hys_type.specs.Translation.{IsTranslation};
+ghost use Rattle.hys_prog.specs.Orders.{IsOrder};
+ghost use Rattle.hys_prog.specs.declared.program.Program.{Program};
+ghost use Rattle.hys_prog.specs.declared.program.Order.{Order};
+ghost use Rattle.hys_bound.specs.Ranges.{range_numbers};
 ghost use Rattle.hys_plain.specs.Plain.{IsPlain};
 ghost use Rattle.hys_plain.specs.Meant.{PartsOf};
 ghost use Rattle.hys_plain.specs.declared.parts.PlainParts.{PlainParts};
@@ -46,9 +51,18 @@ pub fn read_sources()
         AllByRecursion IsDeclaration s.decls }
 {}
 
-/// No check of typing fails in a plain source.
+/// In a plain source no check of typing fails, and it has no interval to find.
 pub fn plain_sources_are_typed()
-    ensures { (tokens : List Token) (s : Source) → IsPlain tokens s → fault_of s ≡ None }
+    ensures typed { (tokens : List Token) (s : Source) → IsPlain tokens s → fault_of s ≡ None }
+    ensures ranges { (tolerance : Number) (tokens : List Token) (s : Source) (p : Program) (o : Order) →
+        IsPlain tokens s → IsTranslation tolerance s p → IsOrder p o → range_numbers p o ≡ [] }
+{}
+
+/// All translations of a source at a tolerance have the same numbers of intervals along their orders,
+/// so that the first of them that doesn't fit is the source's.
+pub fn same_range_numbers()
+    ensures { (tolerance : Number) (s : Source) (p q : Program) (o r : Order) → IsTranslation tolerance s p →
+        IsTranslation tolerance s q → IsOrder p o → IsOrder q r → range_numbers p o ≡ range_numbers q r }
 {}
 
 /// There are twenty faults, and each constant of the module `number` is the number of the fault

@@ -10,6 +10,7 @@ mod naming;
 pub mod number;
 #[cfg(test)]
 mod tests;
+mod typing;
 
 pub use compiler::compile;
 pub use fault::{Detail, LimitKind, SourceFault};

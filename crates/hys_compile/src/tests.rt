@@ -1,5 +1,7 @@
 use crate::{Detail, LimitKind, SourceFault, compile};
 use hys_ast::Place;
+use hys_frac::Frac;
+use hys_lin::Op;
 use std::alloc::{AllocError, Global};
 use std::process::Abort;
 use std::test::Fail;
@@ -214,12 +216,13 @@ fn limit_on_bytes(rt: HostRuntime) -> Result<(), Fail> {
     Ok(())
 }
 
-// Each bound is a node, and a sum of n names has 2 * n - 1 nodes.
+// Each bound is a node, and a sum of n names has 2 * n - 1 nodes. The second item, after 80 and 2,003 characters, defines
+// the name again.
 #[test]
 fn limits_on_nodes(rt: HostRuntime) -> Result<(), Fail> {
     let alloc = rt.alloc();
     let rows = [
-        (4, "x = -x;", Answer::Placed(19, 1, 1)),
+        (4, "x = -x;", Answer::Placed(14, 1, 2084)),
         (4, "x = x + x;", Answer::Over(LimitKind::Nodes)),
         (0, "x = -x + x;", Answer::Placed(19, 1, 1)),
     ];
@@ -240,6 +243,198 @@ fn limits_on_nodes(rt: HostRuntime) -> Result<(), Fail> {
             "SYSTEM n {{ INTERFACE {{ STATE {{ REAL x [0, 1]; }} }} IMPLEMENTATION {{ CONTINUOUS {{ x = {sign}x{sum}; }} }} }}"
         )?;
         assert_eq!(rt; judged(alloc, text.as_bytes()), wanted, "{sign}");
+    }
+    Ok(())
+}
+
+// The number of a fault with its place.
+fn placed(alloc: Global, number: u8, place: Place) -> Result<String, AllocError> {
+    format!(in alloc; "{number} {}:{}", place.line, place.col)
+}
+
+// A fault that shows two numbers, in few words.
+fn with_numbers(alloc: Global, front: &str, left: Frac, right: Frac) -> Result<String, AllocError> {
+    let left = left.num();
+    let right = right.num();
+    format!(in alloc; "{front} {left} {right}")
+}
+
+// A fault in few words.
+fn in_words(alloc: Global, number: u8, detail: &Detail) -> Result<String, AllocError> {
+    match detail {
+        Detail::At(place) => placed(alloc, number, *place),
+        Detail::Named(name) => {
+            let name = name.text();
+            format!(in alloc; "{number} {name}")
+        }
+        Detail::Names(_) => format!(in alloc; "{number} names"),
+        Detail::Ends(place, low, high) => {
+            let front = placed(alloc, number, *place)?;
+            with_numbers(alloc, front.as_str(), *low, *high)
+        }
+        Detail::Literal(place) => {
+            let front = placed(alloc, number, *place)?;
+            format!(in alloc; "{front} literal")
+        }
+        Detail::Range(place, lost) => {
+            let front = placed(alloc, number, *place)?;
+            let is_sum = lost.op == Op::Add;
+            let front = format!(in alloc; "{front} {is_sum}")?;
+            with_numbers(alloc, front.as_str(), lost.left, lost.right)
+        }
+        Detail::Tolerance(place, value) => {
+            let front = placed(alloc, number, *place)?;
+            let value = value.num();
+            format!(in alloc; "{front} {value}")
+        }
+        Detail::Limit(kind) => {
+            let kind = *kind;
+            format!(in alloc; "{number} {kind:?}")
+        }
+        Detail::Memory => format!(in alloc; "memory"),
+    }
+}
+
+// What the compiler answers, in few words.
+fn described(alloc: Global, text: &str) -> Result<String, AllocError> {
+    match compile(alloc, text.as_bytes()) {
+        Ok(_) => format!(in alloc; "a system"),
+        Err(fault) => in_words(alloc, fault.number, &fault.detail),
+    }
+}
+
+const TYPING: [(&str, &str); 25] = [
+    (
+        "SYSTEM t { INTERFACE { STATE {\nREAL x [0, 1], x [0, 1]; } } IMPLEMENTATION { } }",
+        "5 2:16",
+    ),
+    (
+        "SYSTEM t { INTERFACE { STATE { REAL x [0, 1]; } } IMPLEMENTATION { CONTINUOUS {\nx = 1 + z; } } }",
+        "6 2:9",
+    ),
+    (
+        "SYSTEM t { INTERFACE { PARAMETER {\nREAL a = b, b = 1; } } IMPLEMENTATION { } }",
+        "6 2:10",
+    ),
+    (
+        "SYSTEM k { INTERFACE { STATE { REAL x [0, 10]; }\nINPUT { REAL y [0, 1]; BOOL a; } } IMPLEMENTATION { CONTINUOUS {\nx = a + 1;\n} } }",
+        "7 3:7",
+    ),
+    (
+        "SYSTEM k { INTERFACE { STATE { REAL x [0, 10]; }\nINPUT { REAL y [0, 1]; BOOL a; } } IMPLEMENTATION { CONTINUOUS {\nx = x * y;\n} } }",
+        "8 3:7",
+    ),
+    (
+        "SYSTEM k { INTERFACE { STATE { REAL x [0, 10]; }\nINPUT { REAL y [0, 1]; BOOL a; } } IMPLEMENTATION { CONTINUOUS {\nx = x / (2 - 2);\n} } }",
+        "9 3:7",
+    ),
+    (
+        "SYSTEM t { INTERFACE { STATE {\nREAL x; } } IMPLEMENTATION { } }",
+        "10 2:6",
+    ),
+    (
+        "SYSTEM p { INTERFACE { STATE { REAL x [3, 2]; } } IMPLEMENTATION { CONTINUOUS { x = x; } } }",
+        "11 1:37 3 2",
+    ),
+    (
+        "SYSTEM p { INTERFACE { STATE { REAL x [3, 3]; } } IMPLEMENTATION { CONTINUOUS { x = x; } } }",
+        "a system",
+    ),
+    (
+        "SYSTEM t { INTERFACE { PARAMETER {\nREAL a; } } IMPLEMENTATION { } }",
+        "12 2:6",
+    ),
+    (
+        "SYSTEM t { INTERFACE { STATE { REAL x [0, 1]; } } IMPLEMENTATION { } }",
+        "13 x",
+    ),
+    (
+        "SYSTEM t { INTERFACE { STATE { REAL x [0, 1]; } } IMPLEMENTATION { CONTINUOUS {\nx = 1;\nx = 2; } } }",
+        "14 3:1",
+    ),
+    (
+        "SYSTEM t { INTERFACE { INPUT { REAL u [0, 1]; } } IMPLEMENTATION { CONTINUOUS {\nu = 1; } } }",
+        "15 2:1",
+    ),
+    (
+        "SYSTEM p { INTERFACE { STATE { REAL x [0, 1e-19]; } } IMPLEMENTATION { CONTINUOUS { x = x; } } }",
+        "17 1:43 literal",
+    ),
+    (
+        "SYSTEM p { INTERFACE { STATE { REAL x [0, 9223372036854775808]; } } IMPLEMENTATION { CONTINUOUS { x = x; } } }",
+        "17 1:43 literal",
+    ),
+    (
+        "SYSTEM p { INTERFACE { STATE {\nREAL x [0, 9223372036854775807 + 1]; } } IMPLEMENTATION { CONTINUOUS { x = x; } } }",
+        "17 2:32 true 9223372036854775807 1",
+    ),
+    (
+        "SYSTEM t { INTERFACE { STATE { REAL x [0, 1]; } } IMPLEMENTATION { AUX { BOOL d; } AD {\nd = x >= 1 [0]; } CONTINUOUS { x = x; } } }",
+        "20 2:1 0",
+    ),
+    // Two faults: names before values, boxes before items, the left name before the right side, operands before their
+    // operator, items before names that none defines, and all of these before what isn't built yet.
+    (
+        "SYSTEM t { INTERFACE { PARAMETER {\nREAL a, a; } } IMPLEMENTATION { } }",
+        "5 2:9",
+    ),
+    (
+        "SYSTEM t { INTERFACE { STATE { REAL x [3, 2]; } } IMPLEMENTATION { CONTINUOUS { x = z; } } }",
+        "11 1:37 3 2",
+    ),
+    (
+        "SYSTEM t { INTERFACE { STATE { REAL x [0, 1]; } } IMPLEMENTATION { CONTINUOUS {\nx = 1;\nx = z; } } }",
+        "14 3:1",
+    ),
+    (
+        "SYSTEM t { INTERFACE { STATE { REAL x [0, 1]; } } IMPLEMENTATION { CONTINUOUS {\nx = x * (x + z); } } }",
+        "6 2:14",
+    ),
+    (
+        "SYSTEM t { INTERFACE { STATE { REAL y [0, 1], x [0, 1]; } } IMPLEMENTATION { CONTINUOUS {\nx = z; } } }",
+        "6 2:5",
+    ),
+    (
+        "SYSTEM t { INTERFACE { OUTPUT { REAL y; } } IMPLEMENTATION { } }",
+        "13 y",
+    ),
+    (
+        "SYSTEM t { INTERFACE { STATE { REAL x [0, 1]; } } IMPLEMENTATION { AUX { BOOL d; } AD {\nd = z >= 1 [0]; } CONTINUOUS { x = x; } } }",
+        "6 2:5",
+    ),
+    (
+        "SYSTEM t { INTERFACE { PARAMETER {\nREAL a = 1; } } IMPLEMENTATION { } }",
+        "19 1:24",
+    ),
+];
+
+#[test]
+fn typing_faults(rt: HostRuntime) -> Result<(), Fail> {
+    let alloc = rt.alloc();
+    for (text, wanted) in TYPING {
+        let got = described(alloc, text)?;
+        assert_eq!(rt; got.as_str(), wanted, "{text}");
+    }
+    Ok(())
+}
+
+// With 200 names the source is one that isn't built yet.
+#[test]
+fn limit_on_names(rt: HostRuntime) -> Result<(), Fail> {
+    let alloc = rt.alloc();
+    for (count, wanted) in [
+        (200, Answer::Placed(19, 1, 32)),
+        (201, Answer::Over(LimitKind::Names)),
+    ] {
+        let mut names = String::new(alloc);
+        for number in 0..count {
+            let name = format!(in alloc; "BOOL a{number}; ")?;
+            names.push_str(name.as_str())?;
+        }
+        let text = format!(in alloc;
+            "SYSTEM n {{ INTERFACE {{ INPUT {{ {names} }} }} IMPLEMENTATION {{ }} }}"
+        )?;
+        assert_eq!(rt; judged(alloc, text.as_bytes()), wanted, "{count}");
     }
     Ok(())
 }

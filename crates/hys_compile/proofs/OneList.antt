@@ -1,0 +1,363 @@
+-- Two translations of a source have the same intervals to find: the numbers of their ranges are the same.
+use Rattle.std.proofs.Common.{◌≡◌, ℕ, zero, suc, ◌+◌, ◌<◌, ◌≤◌, List, [], ◌∷◌, ◌++◌, Option, Some, Bool, cond, map, length, ◌⊎◌, inl, inr, IsTrue, refl, sym, ◌∙◌, ap, ap₂, subst, arith}
+use Rattle.std.proofs.Common.{set}
+use Rattle.std.specs.List.{AllByRecursion}
+use Rattle.hys_number.specs.Number.{Number}
+use Rattle.hys_number.specs.Ops.{whole}
+use Rattle.hys_lin.specs.declared.form.Affine.{Affine}
+use Rattle.hys_lin.specs.declared.form.Term.{Term}
+use Rattle.hys_lin.specs.declared.form.Interval.{Interval}
+use Rattle.hys_lin.specs.declared.lost.Lost.{Lost}
+use Rattle.hys_lin.specs.Scaled.{coefficient}
+use Rattle.hys_lin.specs.Sums.{AreTerms, EachColumn}
+use Rattle.hys_lin.proofs.Lists.{each_more}
+use Rattle.hys_ast.specs.declared.source.Section.{Section}
+use Rattle.hys_ast.specs.declared.source.Section.TheVariants as section
+use Rattle.hys_ast.specs.declared.source.Kind.{Kind}
+use Rattle.hys_ast.specs.Tree.{Decl, Item, Source}
+use Rattle.hys_meaning.specs.Values.{Assignment}
+use Rattle.hys_meaning.specs.Names.{Name, parameters, is_parameter}
+use Rattle.hys_meaning.specs.Steps.{is_given}
+use Rattle.hys_meaning.specs.Forms.{Form, form, guard_form}
+use Rattle.hys_meaning.specs.Bodies.{body}
+use Rattle.hys_meaning.specs.Bodies as said
+use Rattle.hys_prog.specs.declared.program.Role.{Role}
+use Rattle.hys_prog.specs.declared.program.Body.{Body}
+use Rattle.hys_prog.specs.declared.program.Name.{Name as ProgName}
+use Rattle.hys_prog.specs.declared.program.ProgItem.{ProgItem}
+use Rattle.hys_prog.specs.declared.program.Program.{Program}
+use Rattle.hys_prog.specs.declared.program.Order.{Order}
+use Rattle.hys_prog.specs.Programs.{is_named}
+use Rattle.hys_prog.specs.Steps.{places, places_from, is_auxiliary}
+use Rattle.hys_prog.specs.Orders.{Stands, HasTerm, MentionedIn, SomeItem, Leads, IsIn, IsReady, IsFirst, IsOrderAfter, IsOrder}
+use Rattle.hys_order.proofs.Definable.{one_order}
+use Rattle.hys_lin.specs.Ranges.{ranging}
+use Rattle.hys_bound.specs.Ranges.{range, hull, unit, defined_interval, asked, Placed, all_at, place_in, interval_at, asked_at, with_interval, numbers_here, numbers_along, declared_interval, declared, range_numbers}
+use Rattle.hys_type.specs.Translation.{Setting, setting, role_in, IsNameOf, OneByOne, HaveFactors, IsFormOf, else_form, formula, left_kind, IsBodyOf, guard, choice, logic, linear, next_bool, next_real, out_bool, out_real, must_hold, must_most, must_zero, IsItemOf, IsNamedTranslation}
+use Rattle.hys_type.specs.Built.{sparse}
+use Rattle.hys_type.proofs.FormPlaces.{own_column, other_column}
+use Rattle.hys_type.proofs.SparseForms.{no_column, sparse_is}
+
+-- ---- terms by their factors
+later_none : (j : ℕ) (ts : List Term) → EachColumn (λ c. j < c) ts → coefficient ts j ≡ whole 0
+later_none j ts h = no_column j ts (each_more (λ c. j < c) (λ c. ¬ (c ≡ j)) ts (λ c k o. omega (arith, k, o)) h)
+
+own_factor : (t : Term) (ts : List Term) → coefficient (t ∷ ts) t.column ≡ t.factor
+own_factor t ts = ap (λ (b : Bool). cond b t.factor (coefficient ts t.column)) (own_column t.column)
+
+other_factor : (t : Term) (ts : List Term) (j : ℕ) → ¬ (t.column ≡ j) → coefficient (t ∷ ts) j ≡ coefficient ts j
+other_factor t ts j n = ap (λ (b : Bool). cond b t.factor (coefficient ts j)) (other_column t.column j n)
+
+-- a column before all of the list
+before_first : (t : Term) (ts : List Term) (j : ℕ) → AreTerms (t ∷ ts) → j < t.column → coefficient (t ∷ ts) j ≡ whole 0
+before_first t ts j h l = later_none j (t ∷ ts) (l, each_more (λ c. t.column < c) (λ c. j < c) ts (λ c k. omega (arith, k, l)) h.1)
+
+data Order3 (i j : ℕ) : Type 0 where
+  below : i < j → Order3 i j
+  equal : i ≡ j → Order3 i j
+  above : j < i → Order3 i j
+
+order3 : (i j : ℕ) → Order3 i j
+order3 zero zero = equal refl
+order3 zero (suc j) = below (omega arith)
+order3 (suc i) zero = above (omega arith)
+order3 (suc i) (suc j) = go (order3 i j)
+  where
+    go : Order3 i j → Order3 (suc i) (suc j)
+    go (below h) = below (omega (arith, h))
+    go (equal h) = equal (ap suc h)
+    go (above h) = above (omega (arith, h))
+
+abbrev of_term : ℕ → Number → Term
+of_term c a = record { column = c; factor = a }
+
+same_term : (t u : Term) → t.column ≡ u.column → t.factor ≡ u.factor → t ≡ u
+same_term t u e f = ap₂ (λ (c : ℕ) (a : Number). of_term c a) e f
+
+same_terms : (ts us : List Term) → AreTerms ts → AreTerms us → ((j : ℕ) → coefficient ts j ≡ coefficient us j) → ts ≡ us
+same_terms [] [] h k f = refl
+same_terms [] (u ∷ us) h k f = absurd (k.0 (sym (own_factor u us) ∙ sym (f u.column)))
+same_terms (t ∷ ts) [] h k f = absurd (h.0 (sym (own_factor t ts) ∙ f t.column))
+same_terms (t ∷ ts) (u ∷ us) h k f = go (order3 t.column u.column) (same_terms ts us h.2 k.2)
+  where
+    tail : t.column ≡ u.column → (j : ℕ) → coefficient ts j ≡ coefficient us j
+    tail e j = by (order3 t.column j)
+      where
+        by : Order3 t.column j → coefficient ts j ≡ coefficient us j
+        by (below l) = sym (other_factor t ts j (λ o. omega (arith, l, o))) ∙ f j ∙ other_factor u us j (λ o. omega (arith, l, o, e))
+        by (equal l) = later_none j ts (each_more (λ c. t.column < c) (λ c. j < c) ts (λ c i. omega (arith, i, l)) h.1) ∙ sym (later_none j us (each_more (λ c. u.column < c) (λ c. j < c) us (λ c i. omega (arith, i, l, e)) k.1))
+        by (above l) = later_none j ts (each_more (λ c. t.column < c) (λ c. j < c) ts (λ c i. omega (arith, i, l)) h.1) ∙ sym (later_none j us (each_more (λ c. u.column < c) (λ c. j < c) us (λ c i. omega (arith, i, l, e)) k.1))
+
+    go : Order3 t.column u.column → (((j : ℕ) → coefficient ts j ≡ coefficient us j) → ts ≡ us) → t ∷ ts ≡ u ∷ us
+    go (below l) rest = absurd (h.0 (sym (own_factor t ts) ∙ f t.column ∙ before_first u us t.column k l))
+    go (above l) rest = absurd (k.0 (sym (own_factor u us) ∙ sym (f u.column) ∙ before_first t ts u.column h l))
+    go (equal e) rest = ap₂ (λ (x : Term) (xs : List Term). x ∷ xs) (same_term t u e (sym (own_factor t ts) ∙ f t.column ∙ ap (coefficient (u ∷ us)) e ∙ own_factor u us)) (rest (tail e))
+
+-- ---- forms
+factors_same : (k : ℕ) (ns : List Name) (g : Form) (ts us : List Term) → HaveFactors k ns g ts → HaveFactors k ns g us → (j : ℕ) → k ≤ j → j < k + length ns → coefficient ts j ≡ coefficient us j
+factors_same k [] g ts us h i j l m = absurd (omega (arith, l, m))
+factors_same k (n ∷ ns) g ts us h i j l m = go (order3 k j) (factors_same (suc k) ns g ts us h.1 i.1 j)
+  where
+    go : Order3 k j → (suc k ≤ j → j < suc k + length ns → coefficient ts j ≡ coefficient us j) → coefficient ts j ≡ coefficient us j
+    go (below b) rest = rest (omega (arith, b)) (omega (arith, m))
+    go (equal e) rest = ap (coefficient ts) (sym e) ∙ h.0 ∙ sym i.0 ∙ ap (coefficient us) e
+    go (above a) rest = absurd (omega (arith, a, l))
+
+outside : (m j : ℕ) (ts : List Term) → EachColumn (λ c. c < m) ts → m ≤ j → coefficient ts j ≡ whole 0
+outside m j ts h l = no_column j ts (each_more (λ c. c < m) (λ c. ¬ (c ≡ j)) ts (λ c k o. omega (arith, k, o, l)) h)
+
+record Split (j m : ℕ) : Type 0 where
+  it : (j < m) ⊎ (m ≤ j)
+
+split : (j m : ℕ) → Split j m
+split j m = go (order3 j m)
+  where
+    go : Order3 j m → Split j m
+    go (below h) = record { it = inl h }
+    go (equal h) = record { it = inr (omega (arith, h)) }
+    go (above h) = record { it = inr (omega (arith, h)) }
+
+all_same : (ns : List Name) (g : Form) (f h : Affine) → IsFormOf ns g f → IsFormOf ns g h → (j : ℕ) → coefficient f.terms j ≡ coefficient h.terms j
+all_same ns g f h a b j = elim (split j (length ns)).it [
+  | inl l ↦ factors_same 0 ns g f.terms h.terms a.factors b.factors j (omega arith) (omega (arith, l))
+  | inr l ↦ outside (length ns) j f.terms a.terms.below l ∙ sym (outside (length ns) j h.terms b.terms.below l)
+]
+
+abbrev of_affine : List Term → Number → Affine
+of_affine ts a = record { terms = ts; constant = a }
+
+same_affine : (f h : Affine) → f.terms ≡ h.terms → f.constant ≡ h.constant → f ≡ h
+same_affine f h e i = ap₂ of_affine e i
+
+one_form : (ns : List Name) (g : Form) (f h : Affine) → IsFormOf ns g f → IsFormOf ns g h → f ≡ h
+one_form ns g f h a b = same_affine f h (same_terms f.terms h.terms a.terms.rise b.terms.rise (all_same ns g f h a b)) (a.constant ∙ sym b.constant)
+
+-- the only form
+abbrev only : List Name → Form → Affine
+only ns g = sparse (record { factors = map (λ (n : Name). g.factor n.text) ns; constant = g.constant })
+
+only_form : (ns : List Name) (g : Form) (f : Affine) → IsFormOf ns g f → f ≡ only ns g
+only_form ns g f a = one_form ns g f (only ns g) a (sparse_is ns g (record { factors = map (λ (n : Name). g.factor n.text) ns; constant = g.constant }) (record { factors = refl; constant = refl }))
+
+-- ---- bodies, by what the source says
+abbrev asked_as : Setting → List Interval → said.Body → List Lost
+asked_as c boxes (said.Guard e t) = ranging boxes (only c.names (guard_form c.names e))
+asked_as c boxes (said.Choice e h o) = ranging boxes (only c.names (form c.names h)) ++ ranging boxes (only c.names (else_form c.names o))
+asked_as c boxes (said.Logic e) = []
+asked_as c boxes (said.Linear e) = ranging boxes (only c.names (form c.names e))
+asked_as c boxes (said.NextBool e) = []
+asked_as c boxes (said.NextReal e) = []
+asked_as c boxes (said.Output e) = []
+asked_as c boxes (said.Must e) = []
+asked_as c boxes said.Nothing = []
+
+abbrev interval_as : Setting → List Interval → said.Body → Interval
+interval_as c boxes (said.Guard e t) = unit
+interval_as c boxes (said.Choice e h o) = hull (range boxes (only c.names (form c.names h))) (range boxes (only c.names (else_form c.names o)))
+interval_as c boxes (said.Logic e) = unit
+interval_as c boxes (said.Linear e) = range boxes (only c.names (form c.names e))
+interval_as c boxes (said.NextBool e) = unit
+interval_as c boxes (said.NextReal e) = unit
+interval_as c boxes (said.Output e) = unit
+interval_as c boxes (said.Must e) = unit
+interval_as c boxes said.Nothing = unit
+
+abbrev MentionedAs : Setting → ℕ → said.Body → Type 0
+MentionedAs c n (said.Guard e t) = HasTerm n (only c.names (guard_form c.names e)).terms
+MentionedAs c n (said.Choice e h o) = Stands n (formula c.names e) ⊎ (HasTerm n (only c.names (form c.names h)).terms ⊎ HasTerm n (only c.names (else_form c.names o)).terms)
+MentionedAs c n (said.Logic e) = Stands n (formula c.names e)
+MentionedAs c n (said.Linear e) = HasTerm n (only c.names (form c.names e)).terms
+MentionedAs c n (said.NextBool e) = ⊥
+MentionedAs c n (said.NextReal e) = ⊥
+MentionedAs c n (said.Output e) = ⊥
+MentionedAs c n (said.Must e) = ⊥
+MentionedAs c n said.Nothing = ⊥
+
+asked_is : (c : Setting) (k : Option Kind) (s : said.Body) (b : Body) (boxes : List Interval) → IsBodyOf c k s b → asked boxes b ≡ asked_as c boxes s
+asked_is c k s b boxes (guard {e = e} {f = f} i j x y) = ap (asked boxes) j ∙ ap (ranging boxes) (only_form c.names (guard_form c.names e) f x) ∙ sym (ap (asked_as c boxes) i)
+asked_is c k s b boxes (choice {e = e} {h = h} {o = o} {l = l} {f = f} {g = g} i j w x y) =
+    ap (asked boxes) j ∙ ap₂ (λ (a d : Affine). ranging boxes a ++ ranging boxes d) (only_form c.names (form c.names h) f x) (only_form c.names (else_form c.names o) g y) ∙ sym (ap (asked_as c boxes) i)
+asked_is c k s b boxes (logic i j x) = ap (asked boxes) j ∙ sym (ap (asked_as c boxes) i)
+asked_is c k s b boxes (linear {e = e} {f = f} i j x) = ap (asked boxes) j ∙ ap (ranging boxes) (only_form c.names (form c.names e) f x) ∙ sym (ap (asked_as c boxes) i)
+asked_is c k s b boxes (next_bool i j x) = ap (asked boxes) j ∙ sym (ap (asked_as c boxes) i)
+asked_is c k s b boxes (next_real i j x) = ap (asked boxes) j ∙ sym (ap (asked_as c boxes) i)
+asked_is c k s b boxes (out_bool q i j x) = ap (asked boxes) j ∙ sym (ap (asked_as c boxes) i)
+asked_is c k s b boxes (out_real q i j x) = ap (asked boxes) j ∙ sym (ap (asked_as c boxes) i)
+asked_is c k s b boxes (must_hold q i j x) = ap (asked boxes) j ∙ sym (ap (asked_as c boxes) i)
+asked_is c k s b boxes (must_most q i j x) = ap (asked boxes) j ∙ sym (ap (asked_as c boxes) i)
+asked_is c k s b boxes (must_zero i j x) = ap (asked boxes) j ∙ sym (ap (asked_as c boxes) i)
+
+interval_is : (c : Setting) (k : Option Kind) (s : said.Body) (b : Body) (boxes : List Interval) → IsBodyOf c k s b → defined_interval boxes b ≡ interval_as c boxes s
+interval_is c k s b boxes (guard i j x y) = ap (defined_interval boxes) j ∙ sym (ap (interval_as c boxes) i)
+interval_is c k s b boxes (choice {e = e} {h = h} {o = o} {l = l} {f = f} {g = g} i j w x y) =
+    ap (defined_interval boxes) j ∙ ap₂ (λ (a d : Affine). hull (range boxes a) (range boxes d)) (only_form c.names (form c.names h) f x) (only_form c.names (else_form c.names o) g y) ∙ sym (ap (interval_as c boxes) i)
+interval_is c k s b boxes (logic i j x) = ap (defined_interval boxes) j ∙ sym (ap (interval_as c boxes) i)
+interval_is c k s b boxes (linear {e = e} {f = f} i j x) = ap (defined_interval boxes) j ∙ ap (range boxes) (only_form c.names (form c.names e) f x) ∙ sym (ap (interval_as c boxes) i)
+interval_is c k s b boxes (next_bool i j x) = ap (defined_interval boxes) j ∙ sym (ap (interval_as c boxes) i)
+interval_is c k s b boxes (next_real i j x) = ap (defined_interval boxes) j ∙ sym (ap (interval_as c boxes) i)
+interval_is c k s b boxes (out_bool q i j x) = ap (defined_interval boxes) j ∙ sym (ap (interval_as c boxes) i)
+interval_is c k s b boxes (out_real q i j x) = ap (defined_interval boxes) j ∙ sym (ap (interval_as c boxes) i)
+interval_is c k s b boxes (must_hold q i j x) = ap (defined_interval boxes) j ∙ sym (ap (interval_as c boxes) i)
+interval_is c k s b boxes (must_most q i j x) = ap (defined_interval boxes) j ∙ sym (ap (interval_as c boxes) i)
+interval_is c k s b boxes (must_zero i j x) = ap (defined_interval boxes) j ∙ sym (ap (interval_as c boxes) i)
+
+mention_is : (c : Setting) (k : Option Kind) (s : said.Body) (b : Body) (n : ℕ) → IsBodyOf c k s b → MentionedIn n b ≡ MentionedAs c n s
+mention_is c k s b n (guard {e = e} {f = f} i j x y) = ap (MentionedIn n) j ∙ ap (λ (a : Affine). HasTerm n a.terms) (only_form c.names (guard_form c.names e) f x) ∙ sym (ap (MentionedAs c n) i)
+mention_is c k s b n (choice {e = e} {h = h} {o = o} {l = l} {f = f} {g = g} i j w x y) =
+    ap (MentionedIn n) j ∙ ap (λ t. Stands n t ⊎ (HasTerm n f.terms ⊎ HasTerm n g.terms)) w
+    ∙ ap₂ (λ (a d : Affine). Stands n (formula c.names e) ⊎ (HasTerm n a.terms ⊎ HasTerm n d.terms)) (only_form c.names (form c.names h) f x) (only_form c.names (else_form c.names o) g y) ∙ sym (ap (MentionedAs c n) i)
+mention_is c k s b n (logic i j x) = ap (MentionedIn n) j ∙ ap (Stands n) x ∙ sym (ap (MentionedAs c n) i)
+mention_is c k s b n (linear {e = e} {f = f} i j x) = ap (MentionedIn n) j ∙ ap (λ (a : Affine). HasTerm n a.terms) (only_form c.names (form c.names e) f x) ∙ sym (ap (MentionedAs c n) i)
+mention_is c k s b n (next_bool i j x) = ap (MentionedIn n) j ∙ sym (ap (MentionedAs c n) i)
+mention_is c k s b n (next_real i j x) = ap (MentionedIn n) j ∙ sym (ap (MentionedAs c n) i)
+mention_is c k s b n (out_bool q i j x) = ap (MentionedIn n) j ∙ sym (ap (MentionedAs c n) i)
+mention_is c k s b n (out_real q i j x) = ap (MentionedIn n) j ∙ sym (ap (MentionedAs c n) i)
+mention_is c k s b n (must_hold q i j x) = ap (MentionedIn n) j ∙ sym (ap (MentionedAs c n) i)
+mention_is c k s b n (must_most q i j x) = ap (MentionedIn n) j ∙ sym (ap (MentionedAs c n) i)
+mention_is c k s b n (must_zero i j x) = ap (MentionedIn n) j ∙ sym (ap (MentionedAs c n) i)
+
+-- ---- items
+-- one by one with the same names, operations, intervals and mentions
+record AreLike (t u : ProgItem) : Type 1 where
+  name : t.name ≡ u.name
+  asks : (boxes : List Interval) → asked boxes t.body ≡ asked boxes u.body
+  finds : (boxes : List Interval) → defined_interval boxes t.body ≡ defined_interval boxes u.body
+  mentions : (n : ℕ) → MentionedIn n t.body ≡ MentionedIn n u.body
+
+like : (c : Setting) (i : Item) (t u : ProgItem) → IsItemOf c i t → IsItemOf c i u → AreLike t u
+like c i t u h k = record {
+  name = h.name ∙ sym k.name;
+  asks = λ boxes. asked_is c (left_kind c.names i.name) (body i) t.body boxes h.body ∙ sym (asked_is c (left_kind c.names i.name) (body i) u.body boxes k.body);
+  finds = λ boxes. interval_is c (left_kind c.names i.name) (body i) t.body boxes h.body ∙ sym (interval_is c (left_kind c.names i.name) (body i) u.body boxes k.body);
+  mentions = λ n. mention_is c (left_kind c.names i.name) (body i) t.body n h.body ∙ sym (mention_is c (left_kind c.names i.name) (body i) u.body n k.body);
+}
+
+data AllLike : List ProgItem → List ProgItem → Type 1 where
+  none : AllLike [] []
+  more : {t u : ProgItem} {ts us : List ProgItem} → AreLike t u → AllLike ts us → AllLike (t ∷ ts) (u ∷ us)
+
+all_like : (c : Setting) (is : List Item) (ts us : List ProgItem) → OneByOne (IsItemOf c) is ts → OneByOne (IsItemOf c) is us → AllLike ts us
+all_like c [] [] [] h k = none
+all_like c [] [] (u ∷ us) h k = absurd k
+all_like c [] (t ∷ ts) us h k = absurd h
+all_like c (i ∷ is) [] us h k = absurd h
+all_like c (i ∷ is) (t ∷ ts) [] h k = absurd k
+all_like c (i ∷ is) (t ∷ ts) (u ∷ us) h k = more (like c i t u h.0 k.0) (all_like c is ts us h.1 k.1)
+
+place_same : (ts us : List ProgItem) (n : ℕ) → AllLike ts us → place_in ts n ≡ place_in us n
+place_same _ _ n none = refl
+place_same _ _ n (more {t = t} {u = u} {ts = ts} {us = us} l r) = ap₂ (λ (o : Option ℕ) (k : ℕ). cond (is_named n o) 0 (suc k)) l.name (place_same ts us n r)
+
+interval_same : (ts us : List ProgItem) (boxes : List Interval) (k : ℕ) → AllLike ts us → interval_at boxes ts k ≡ interval_at boxes us k
+interval_same _ _ boxes k none = refl
+interval_same _ _ boxes zero (more l r) = l.finds boxes
+interval_same _ _ boxes (suc k) (more {ts = ts} {us = us} l r) = interval_same ts us boxes k r
+
+asked_same : (ts us : List ProgItem) (boxes : List Interval) (k : ℕ) → AllLike ts us → asked_at boxes ts k ≡ asked_at boxes us k
+asked_same _ _ boxes k none = refl
+asked_same _ _ boxes zero (more l r) = l.asks boxes
+asked_same _ _ boxes (suc k) (more {ts = ts} {us = us} l r) = asked_same ts us boxes k r
+
+along_same : (ts us : List ProgItem) (ns : List ℕ) (boxes : List Interval) → AllLike ts us → numbers_along ts ns boxes ≡ numbers_along us ns boxes
+along_same ts us [] boxes l = refl
+along_same ts us (n ∷ ns) boxes l =
+    let p : place_in ts n ≡ place_in us n = place_same ts us n l in
+    let here : numbers_here ts n boxes ≡ numbers_here us n boxes = ap₂ all_at p (asked_same ts us boxes (place_in ts n) l ∙ ap (asked_at boxes us) p) in
+    let found : with_interval ts n boxes ≡ with_interval us n boxes = ap (λ (i : Interval). set boxes n i) (interval_same ts us boxes (place_in ts n) l ∙ ap (interval_at boxes us) p) in
+    ap₂ (λ (xs ys : List Placed). xs ++ ys) here (along_same ts us ns (with_interval ts n boxes) l ∙ ap (numbers_along us ns) found)
+
+-- ---- names
+abbrev of_interval : Number → Number → Interval
+of_interval a b = record { low = a; high = b }
+
+same_interval : (i j : Interval) → i.low ≡ j.low → i.high ≡ j.high → i ≡ j
+same_interval i j e h = ap₂ of_interval e h
+
+record AreNamesOf (w : Assignment) (d : Decl) (t : Section) (x y : ProgName) : Type 0 where
+  low : IsTrue (is_given t) → x.bounds.low ≡ y.bounds.low
+  high : IsTrue (is_given t) → x.bounds.high ≡ y.bounds.high
+  value : IsTrue (is_parameter t) → x.value ≡ y.value
+
+interval_by : (w : Assignment) (d : Decl) (t : Section) (x y : ProgName) → AreNamesOf w d t x y → declared_interval (role_in t) x ≡ declared_interval (role_in t) y
+interval_by w d section.State x y h = same_interval x.bounds y.bounds (h.low refl) (h.high refl)
+interval_by w d section.Input x y h = same_interval x.bounds y.bounds (h.low refl) (h.high refl)
+interval_by w d section.Output x y h = refl
+interval_by w d section.Parameter x y h = ap (λ (a : Number). record { low = a; high = a }) (h.value refl)
+interval_by w d section.Aux x y h = refl
+interval_by w d section.Ad x y h = refl
+interval_by w d section.Da x y h = refl
+interval_by w d section.Logic x y h = refl
+interval_by w d section.Linear x y h = refl
+interval_by w d section.Automata x y h = refl
+interval_by w d section.Continuous x y h = refl
+interval_by w d section.OutputItem x y h = refl
+interval_by w d section.Must x y h = refl
+
+name_same : (w : Assignment) (d : Decl) (x y : ProgName) → IsNameOf w d x → IsNameOf w d y → declared_interval x.role x ≡ declared_interval y.role y
+name_same w d x y h k =
+    ap (λ (r : Role). declared_interval r x) h.role
+    ∙ interval_by w d d.section x y (record { low = λ g. h.low g ∙ sym (k.low g); high = λ g. h.high g ∙ sym (k.high g); value = λ g. h.value g ∙ sym (k.value g) })
+    ∙ sym (ap (λ (r : Role). declared_interval r y) k.role)
+
+declared_same : (w : Assignment) (ds : List Decl) (xs ys : List ProgName) → OneByOne (IsNameOf w) ds xs → OneByOne (IsNameOf w) ds ys → declared xs ≡ declared ys
+declared_same w [] [] [] h k = refl
+declared_same w [] [] (y ∷ ys) h k = absurd k
+declared_same w [] (x ∷ xs) ys h k = absurd h
+declared_same w (d ∷ ds) [] ys h k = absurd h
+declared_same w (d ∷ ds) (x ∷ xs) [] h k = absurd k
+declared_same w (d ∷ ds) (x ∷ xs) (y ∷ ys) h k = ap₂ (λ (i : Interval) (is : List Interval). i ∷ is) (name_same w d x y h.0 k.0) (declared_same w ds xs ys h.1 k.1)
+
+places_same : (w : Assignment) (n : ℕ) (ds : List Decl) (xs ys : List ProgName) → OneByOne (IsNameOf w) ds xs → OneByOne (IsNameOf w) ds ys → places_from n is_auxiliary xs ≡ places_from n is_auxiliary ys
+places_same w n [] [] [] h k = refl
+places_same w n [] [] (y ∷ ys) h k = absurd k
+places_same w n [] (x ∷ xs) ys h k = absurd h
+places_same w n (d ∷ ds) [] ys h k = absurd h
+places_same w n (d ∷ ds) (x ∷ xs) [] h k = absurd k
+places_same w n (d ∷ ds) (x ∷ xs) (y ∷ ys) h k =
+    ap₂ (λ (r : Role) (ms : List ℕ). cond (is_auxiliary r) (n ∷ ms) ms) (h.0.role ∙ sym k.0.role) (places_same w (suc n) ds xs ys h.1 k.1)
+
+-- ---- orders
+leads_like : (ts us : List ProgItem) (n m : ℕ) → AllLike ts us → SomeItem (λ t. (t.name ≡ Some n) × MentionedIn m t.body) ts → SomeItem (λ t. (t.name ≡ Some n) × MentionedIn m t.body) us
+leads_like _ _ n m none h = h
+leads_like _ _ n m (more {ts = ts} {us = us} l r) (inl h) = inl (sym l.name ∙ h.0, cast (l.mentions m) h.1)
+  where
+    cast : {A B : Type 0} → A ≡ B → A → B
+    cast e a = subst (λ (X : Type 0). X) e a
+leads_like _ _ n m (more {ts = ts} {us = us} l r) (inr h) = inr (leads_like ts us n m r h)
+
+all_like_back : (ts us : List ProgItem) → AllLike ts us → AllLike us ts
+all_like_back _ _ none = none
+all_like_back _ _ (more {ts = ts} {us = us} l r) = more (record { name = sym l.name; asks = λ b. sym (l.asks b); finds = λ b. sym (l.finds b); mentions = λ n. sym (l.mentions n) }) (all_like_back ts us r)
+
+ready_in : (p q : Program) (taken : List ℕ) (n : ℕ) → ((m : ℕ) → Leads q n m → Leads p n m) → (ms : List ℕ) → AllByRecursion (λ m. Leads p n m → IsIn m taken) ms → AllByRecursion (λ m. Leads q n m → IsIn m taken) ms
+ready_in p q taken n f [] h = tt
+ready_in p q taken n f (m ∷ ms) h = (λ l. h.0 (f m l), ready_in p q taken n f ms h.1)
+
+ready_like : (p q : Program) (taken : List ℕ) (n : ℕ) → AllLike p.items q.items → places is_auxiliary p ≡ places is_auxiliary q → IsReady p taken n → IsReady q taken n
+ready_like p q taken n l e h = (
+  h.0,
+  subst (λ (ms : List ℕ). AllByRecursion (λ m. Leads q n m → IsIn m taken) ms) e
+      (ready_in p q taken n (λ m. leads_like q.items p.items n m (all_like_back p.items q.items l)) (places is_auxiliary p) h.1),
+)
+
+first_like : (P Q : ℕ → Type 0) (n : ℕ) (ms : List ℕ) → ((m : ℕ) → P m → Q m) → ((m : ℕ) → Q m → P m) → IsFirst P n ms → IsFirst Q n ms
+first_like P Q n [] f g h = h
+first_like P Q n (m ∷ ms) f g (inl h) = inl (f m h.0, h.1)
+first_like P Q n (m ∷ ms) f g (inr h) = inr (λ x. h.0 (g m x), first_like P Q n ms f g h.1)
+
+order_like : (p q : Program) (taken ns : List ℕ) → AllLike p.items q.items → places is_auxiliary p ≡ places is_auxiliary q → IsOrderAfter p taken ns → IsOrderAfter q taken ns
+order_like p q taken [] l e h = subst (λ (ms : List ℕ). AllByRecursion (λ n. IsIn n taken) ms) e h
+order_like p q taken (n ∷ ns) l e h = (
+  subst (λ (ms : List ℕ). IsFirst (IsReady q taken) n ms) e
+      (first_like (IsReady p taken) (IsReady q taken) n (places is_auxiliary p) (λ m. ready_like p q taken m l e) (λ m. ready_like q p taken m (all_like_back p.items q.items l) (sym e)) h.0),
+  order_like p q (n ∷ taken) ns l e h.1,
+)
+
+-- ---- programs
+pub same_numbers : (tolerance : Number) (s : Source) (p q : Program) (o r : Order) → IsNamedTranslation tolerance s p → IsNamedTranslation tolerance s q → IsOrder p o → IsOrder q r → range_numbers p o ≡ range_numbers q r
+same_numbers tolerance s p q o r h k i j =
+    let l : AllLike p.items q.items = all_like (setting tolerance s) s.items p.items q.items h.items k.items in
+    let e : places is_auxiliary p ≡ places is_auxiliary q = places_same (parameters s.decls) 0 s.decls p.names q.names h.names k.names in
+    let names : o.names ≡ r.names = one_order q o r (order_like p q [] o.names l e i) j in
+    along_same p.items q.items o.names (declared p.names) l
+    ∙ ap₂ (λ (ns : List ℕ) (boxes : List Interval). numbers_along q.items ns boxes) names (declared_same (parameters s.decls) s.decls p.names q.names h.names k.names)

@@ -1,0 +1,6 @@
+use Rattle.hys_meaning.specs.Unfolded.{unfolded}
+use Rattle.hys_compile.proofs.OneList.{same_numbers}
+use Rattle.hys_compile.proofs.laws.same_range_numbers.Goals as goal
+
+pub returns : goal.returns
+returns c = λ tolerance s. same_numbers tolerance (unfolded s)
