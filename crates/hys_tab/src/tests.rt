@@ -1,5 +1,6 @@
-ghost use Rattle.std.specs.Prelude.{◌≡◌, [], ◌∷◌, IfOk};
-ghost use Rattle.hys_number.specs.Ops.{neg, whole};
+ghost use Rattle.std.specs.Prelude.{◌≡◌, IfOk};
+ghost use Rattle.hys_number.specs.Ops.{whole};
+ghost use Rattle.hys_relax.specs.LinearProgram.{row_at};
 ghost use Rattle.hys_relax.specs.Worked.{term, worked};
 
 use crate::{Cell, Tableau, start};
@@ -37,7 +38,7 @@ fn item(column: u32, factor: Frac) -> Term
 
 // The sum of three and two times the inputs.
 fn demand(alloc: Global) -> Result<List<Term>, AllocError>
-    ensures { IfOk result (λ r. r ≡ term 1 (whole 3) ∷ term 2 (whole 2) ∷ []) }
+    ensures { IfOk result (λ r. r ≡ (row_at worked 0).terms) }
 {
     let mut terms = Vec::new(alloc);
     terms.push(item(1, Frac::whole(3)))?;
@@ -47,7 +48,7 @@ fn demand(alloc: Global) -> Result<List<Term>, AllocError>
 
 // The end without the start and that sum.
 fn change(alloc: Global) -> Result<List<Term>, AllocError>
-    ensures { IfOk result (λ r. r ≡ term 0 (neg (whole 1)) ∷ term 1 (neg (whole 3)) ∷ term 2 (neg (whole 2)) ∷ term 3 (whole 1) ∷ []) }
+    ensures { IfOk result (λ r. r ≡ (row_at worked 1).terms) }
 {
     let mut terms = Vec::new(alloc);
     terms.push(item(0, Frac::whole(1).neg()))?;
@@ -167,7 +168,9 @@ fn pivots_of_a_plan(rt: HostRuntime) -> Result<(), Fail> {
     assert_eq!(rt; cell(&tableau, 1, 4), Some(part(2, 1)?));
     assert_eq!(rt; cell(&tableau, 2, 4), Some(part(-4, 1)?));
     assert_eq!(rt; tableau.multipliers(alloc), Ok(ones(alloc)?));
+    let kept = tableau.copy(alloc)?;
     assert_eq!(rt; pivot(&mut tableau, 1, 1), Some(Ok(())));
+    assert_eq!(rt; cell(&kept, 1, 4), Some(part(2, 1)?));
     assert_eq!(rt; cell(&tableau, 1, 3), Some(part(1, 3)?));
     assert_eq!(rt; cell(&tableau, 1, 4), Some(part(4, 3)?));
     Ok(())
