@@ -1,24 +1,28 @@
 -- The slack of an equation, and sums that don't fit, by computation.
-use Rattle.std.proofs.Common.{◌≡◌, ℕ, ◌+◌, ◌<◌, inl, inr, refl, sym, ◌∙◌, ap, subst, arith, Bool, true, false, [], ◌∷◌, Option, Some, None}
+use Rattle.std.proofs.Common.{◌≡◌, ℕ, ◌+◌, inl, inr, refl, subst, arith, true, [], ◌∷◌}
 use Rattle.hys_number.specs.Number.{Number, make}
 use Rattle.hys_number.specs.Gcd.{gcd}
-use Rattle.hys_number.specs.Ops.{◌+ₙ◌, ◌*ₙ◌, ◌<ₙ◌, neg, inverse, whole, fits}
+use Rattle.hys_number.specs.Ops.{◌+ₙ◌, ◌*ₙ◌, ◌≤ₙ◌, neg, inverse, whole, fits}
 use Rattle.hys_lin.specs.Sums.{at}
-use Rattle.hys_relax.specs.Node.{Boxes, node_boxes}
+use Rattle.hys_relax.specs.Node.{node_boxes}
 use Rattle.hys_relax.specs.Bound.{costless}
 use Rattle.hys_relax.specs.BoundSum.{bound_operations}
 use Rattle.hys_relax.specs.LinearProgram.{linear_program}
 use Rattle.hys_relax.specs.declared.range.TablePlace.TheVariants.{Value, Sum}
-use Rattle.hys_simplex.specs.Tableau.{Tableau, start, pivot}
-use Rattle.hys_simplex.specs.Status.{InRange, IsOff, under, over, basic_value, AllInside, status_point}
-use Rattle.hys_simplex.specs.Rule.{IsRuled}
-use Rattle.hys_simplex.specs.Path.{IsPathAt, tableau_after}
+use Rattle.hys_simplex.specs.Tableau.{start}
+use Rattle.hys_simplex.specs.Status.{IsOff, under, over, basic_value, AllInside, status_point}
+use Rattle.hys_simplex.specs.Rule.{MayEnter, IsLeaving, IsBlocked, IsRuled}
+use Rattle.hys_simplex.specs.Path.{tableau_after}
 use Rattle.hys_simplex.specs.Unfit.{SomeUnfit, Unfit, RowSumUnfit, point_operations, cost_pairs, row_pairs}
-use Rattle.hys_simplex.specs.Worked.{equated, costly, doubled, dear}
-use Rattle.hys_simplex.specs.Laws.{EquationSlack, AreOrdered}
-use Rattle.hys_simplex.proofs.Places.{start_of, pivot_of}
-use Rattle.hys_simplex.proofs.Decide.{Side, rule_test, beneath, beyond, rule_yes, inside_to, inside_yes, inside_not_off, lt_test, lt_yes, le_test, le_yes}
-use Rattle.hys_simplex.proofs.One.{one_rule}
+use Rattle.hys_simplex.specs.Worked.{equated, costly, doubled, dear, sunk}
+use Rattle.hys_simplex.specs.Laws.{EquationSlack}
+use Rattle.hys_number.proofs.Order.{le_refl'}
+use Rattle.hys_simplex.proofs.Relations.{IsOrdered}
+use Rattle.hys_simplex.proofs.Runs.{start_feasible}
+use Rattle.hys_simplex.proofs.Stranded.{stranded}
+use Rattle.hys_simplex.proofs.NodePaths.{row_lawful}
+use Rattle.hys_simplex.proofs.Places.{start_of}
+use Rattle.hys_simplex.proofs.Decide.{rule_test, beneath, beyond, rule_yes, inside_to, inside_yes, inside_not_off, lt_test, lt_yes}
 
 -- ---- the slack of an equation
 first_test : rule_test (linear_program equated) (node_boxes equated []) (start (linear_program equated)) beyond 0 0 ≡ true
@@ -68,6 +72,46 @@ bound_unfit = refl
 
 pub bound_sum : Unfit fits dear [] [] Sum
 bound_sum = (tt, inl (nothing_outside, bound_unfit))
+
+-- ---- the sum of a row that can't be brought to its range
+sunk_test : lt_test (basic_value (linear_program sunk) (node_boxes sunk []) (start (linear_program sunk)) 0) (whole 0) ≡ true
+unfolding ◌+ₙ◌ ◌*ₙ◌ neg inverse whole make gcd
+sunk_test = refl
+
+sunk_leaving : IsLeaving (linear_program sunk) (node_boxes sunk []) (start (linear_program sunk)) 0 (whole 1) (whole 0)
+sunk_leaving = record {
+  row = omega arith;
+  before = λ i l. absurd (omega arith);
+  off = under refl refl (lt_yes (basic_value (linear_program sunk) (node_boxes sunk []) (start (linear_program sunk)) 0) (whole 0) sunk_test);
+}
+
+sunk_blocked : IsBlocked (linear_program sunk) (node_boxes sunk []) (start (linear_program sunk)) 0 (whole 1) (whole 0)
+sunk_blocked = record {
+  leaving = sunk_leaving;
+  closed = λ j l m. let e : j ≡ 0 = omega (arith, l) in (subst (MayEnter (linear_program sunk) (node_boxes sunk []) (start (linear_program sunk)) 0 (whole 1)) e m).movable refl;
+}
+
+sunk_ordered : IsOrdered 1 (node_boxes sunk [])
+sunk_ordered j l = let e : 0 ≡ j = omega (arith, l) in subst (λ z. (node_boxes sunk [] z).low ≤ₙ (node_boxes sunk [] z).high) e (le_refl' (whole 9223372036854775807))
+
+sunk_unfit : SomeUnfit fits (bound_operations (costless sunk) (node_boxes sunk []) (row_pairs sunk (start (linear_program sunk)) 0 (whole 1)))
+unfolding ◌+ₙ◌ ◌*ₙ◌ neg inverse whole make gcd fits
+sunk_unfit = refl
+
+pub row_sum : Unfit fits sunk [] [] Sum
+row_sum = (
+  tt,
+  inr
+      (record {
+        row = 0;
+        side = whole 1;
+        near = whole 0;
+        leaving = sunk_leaving;
+        stranded = stranded (linear_program sunk) (node_boxes sunk []) (start (linear_program sunk)) 0 (whole 1) (whole 0) (start_of (linear_program sunk)) (start_feasible (linear_program sunk)) sunk_blocked;
+        lawful = row_lawful sunk (node_boxes sunk []) (start (linear_program sunk)) 0 (whole 1) (whole 0) (start_of (linear_program sunk)) (start_feasible (linear_program sunk)) sunk_ordered sunk_blocked;
+        unfit = sunk_unfit;
+      }),
+)
 
 -- ---- the sum of a row has cost 0
 low_test : lt_test (basic_value (linear_program costly) (node_boxes costly []) (start (linear_program costly)) 0) (whole 0) ≡ true

@@ -17,7 +17,7 @@ use Rattle.hys_simplex.specs.Unfit.{SomeUnfit, value_operations, CellUnfit, subt
 use Rattle.hys_simplex.specs.Worked.{program, root_path, decaying, tripled}
 use Rattle.hys_simplex.specs.Laws.{WorkedUnfit}
 use Rattle.hys_simplex.proofs.Places.{start_of}
-use Rattle.hys_simplex.proofs.Pins.{point_sum, point_cost, bound_sum, without_cost}
+use Rattle.hys_simplex.proofs.Pins.{point_sum, point_cost, bound_sum, row_sum, without_cost}
 use Rattle.hys_simplex.proofs.Decide.{rule_test, beneath, beyond, rule_yes, inside_not_off}
 use Rattle.hys_simplex.proofs.One.{one_rule}
 use Rattle.hys_simplex.proofs.WorkedPaths.{root_inside}
@@ -89,5 +89,6 @@ worked_unfit = record {
   point_sum = point_sum;
   point_cost = point_cost;
   bound_sum = bound_sum;
+  row_sum = row_sum;
   without_cost = without_cost;
 }

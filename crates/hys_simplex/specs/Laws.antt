@@ -20,7 +20,7 @@ use Rattle.hys_simplex.specs.Rule.{IsLeaving, IsRuled, IsBlocked, IsStranded}
 use Rattle.hys_simplex.specs.Path.{levels, IsPathAt, tableau_after, IsRun, IsLawfulPath, status_count}
 use Rattle.hys_simplex.specs.Unfit.{SomeUnfit, cost_pairs, row_pairs, UnfitAt, Unfit}
 use Rattle.hys_simplex.specs.Alike.{IsAlike}
-use Rattle.hys_simplex.specs.Worked.{program, root_path, without, with_first, upward, upward_node, four, five, decaying, tripled, equated, costly, doubled, dear}
+use Rattle.hys_simplex.specs.Worked.{program, root_path, without, with_first, upward, upward_node, four, five, decaying, tripled, equated, costly, doubled, dear, sunk}
 
 -- no box is empty
 abbrev pub AreOrdered : ℕ → Boxes → Type 0
@@ -187,7 +187,8 @@ pub record WorkedUnfit : Type 0 where
   pub point_sum : Unfit fits doubled [] [] (Value 0)
   pub point_cost : Unfit fits dear [] [] (Value 0)
   pub bound_sum : Unfit fits dear [] [] Sum
-  -- of a row that can't be brought to its range the sum has cost 0
+  -- the sum of a row that can't be brought to its range; it has cost 0
+  pub row_sum : Unfit fits sunk [] [] Sum
   pub without_cost : ¬ (Unfit fits costly [] [] Sum)
 
 -- the slack of an equation never enters, though its ratio is the least

@@ -118,3 +118,12 @@ dear = record {
   cost = record { terms = term 0 (whole 3) ∷ []; constant = whole 0 };
   branch = [];
 }
+
+-- ---- a row that can't be brought to its range, and whose sum doesn't fit
+abbrev pub sunk : Problem
+sunk = record {
+  boxes = box (whole 9223372036854775807) (whole 9223372036854775807) ∷ [];
+  rows = at_most_row (term 0 (whole 3) ∷ []) (neg (whole 1)) ∷ [];
+  cost = record { terms = []; constant = whole 0 };
+  branch = [];
+}
