@@ -40,4 +40,5 @@ pub mod AlikeRules
 pub mod Points
 pub mod Shown
 pub mod UpwardPath
+pub mod Pins
 pub mod WorkedUnfit

@@ -17,6 +17,7 @@ use Rattle.hys_simplex.specs.Unfit.{SomeUnfit, value_operations, CellUnfit, subt
 use Rattle.hys_simplex.specs.Worked.{program, root_path, decaying, tripled}
 use Rattle.hys_simplex.specs.Laws.{WorkedUnfit}
 use Rattle.hys_simplex.proofs.Places.{start_of}
+use Rattle.hys_simplex.proofs.Pins.{point_sum, point_cost, bound_sum, row_sum, without_cost}
 use Rattle.hys_simplex.proofs.Decide.{rule_test, beneath, beyond, rule_yes, inside_not_off}
 use Rattle.hys_simplex.proofs.One.{one_rule}
 use Rattle.hys_simplex.proofs.WorkedPaths.{root_inside}
@@ -80,4 +81,14 @@ not_after i j h = let q : IsRuled program (node_boxes worked []) (tableau_after 
     (root_inside h.1.row q.leaving.row) q.leaving.off
 
 pub worked_unfit : WorkedUnfit
-worked_unfit = record { value = value; cube = cube; not_at_once = not_at_once; not_after = not_after }
+worked_unfit = record {
+  value = value;
+  cube = cube;
+  not_at_once = not_at_once;
+  not_after = not_after;
+  point_sum = point_sum;
+  point_cost = point_cost;
+  bound_sum = bound_sum;
+  row_sum = row_sum;
+  without_cost = without_cost;
+}

@@ -20,7 +20,7 @@ use Rattle.hys_simplex.specs.Rule.{IsLeaving, IsRuled, IsBlocked, IsStranded}
 use Rattle.hys_simplex.specs.Path.{levels, IsPathAt, tableau_after, IsRun, IsLawfulPath, status_count}
 use Rattle.hys_simplex.specs.Unfit.{SomeUnfit, cost_pairs, row_pairs, UnfitAt, Unfit}
 use Rattle.hys_simplex.specs.Alike.{IsAlike}
-use Rattle.hys_simplex.specs.Worked.{program, root_path, without, with_first, upward, upward_node, four, five, decaying, tripled}
+use Rattle.hys_simplex.specs.Worked.{program, root_path, without, with_first, upward, upward_node, four, five, decaying, tripled, equated, costly, doubled, dear, sunk}
 
 -- no box is empty
 abbrev pub AreOrdered : ℕ → Boxes → Type 0
@@ -183,3 +183,16 @@ pub record WorkedUnfit : Type 0 where
   pub cube : Unfit fits decaying [] ((0, 2) ∷ []) (Cell 2 0)
   pub not_at_once : ¬ (Unfit fits worked [] [] (Cell 0 0))
   pub not_after : (i j : ℕ) → ¬ (Unfit fits worked [] root_path (Cell i j))
+  -- where all basic values are inside: a row's sum at the point, the cost at it, and the bound's sum
+  pub point_sum : Unfit fits doubled [] [] (Value 0)
+  pub point_cost : Unfit fits dear [] [] (Value 0)
+  pub bound_sum : Unfit fits dear [] [] Sum
+  -- the sum of a row that can't be brought to its range; it has cost 0
+  pub row_sum : Unfit fits sunk [] [] Sum
+  pub without_cost : ¬ (Unfit fits costly [] [] Sum)
+
+-- the slack of an equation never enters, though its ratio is the least
+pub record EquationSlack : Type 0 where
+  pub first : IsPathAt equated [] ((0, 0) ∷ [])
+  pub ruled : IsRuled (linear_program equated) (node_boxes equated []) (tableau_after equated ((0, 0) ∷ [])) 1 1
+  pub not_slack : ¬ (IsRuled (linear_program equated) (node_boxes equated []) (tableau_after equated ((0, 0) ∷ [])) 1 0)

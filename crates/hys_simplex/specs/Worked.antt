@@ -80,3 +80,50 @@ tripled = record {
   cost = record { terms = term 0 (neg (whole 1)) ∷ []; constant = whole 0 };
   branch = [];
 }
+
+-- ---- a problem with an equation whose slack has the least ratio, and yet never enters
+abbrev pub equated : Problem
+equated = record {
+  boxes = unit_box ∷ unit_box ∷ [];
+  rows = record { terms = term 0 (whole 2) ∷ term 1 (neg (whole 1)) ∷ []; bound = whole 1; eq = true }
+      ∷ at_most_row (term 0 (neg (whole 1)) ∷ term 1 (neg (whole 1)) ∷ []) (neg (whole 1)) ∷ [];
+  cost = record { terms = term 1 (whole 1) ∷ []; constant = whole 0 };
+  branch = [];
+}
+
+-- ---- a row that can't be brought to its range; its sum would not fit if the cost counted in it
+abbrev pub costly : Problem
+costly = record {
+  boxes = unit_box ∷ [];
+  rows = at_most_row (term 0 (whole 1) ∷ []) (neg (whole 1)) ∷ [];
+  cost = record { terms = term 0 (whole 9223372036854775807) ∷ []; constant = whole 0 };
+  branch = [];
+}
+
+-- ---- three columns of 2^62 each: the sum of the first two doesn't fit, though the row's basic value does
+abbrev pub doubled : Problem
+doubled = record {
+  boxes = box (whole 4611686018427387904) (whole 4611686018427387904) ∷ box (whole 4611686018427387904) (whole 4611686018427387904)
+      ∷ box (whole 4611686018427387904) (whole 4611686018427387904) ∷ [];
+  rows = at_most_row (term 0 (whole 1) ∷ term 1 (whole 1) ∷ term 2 (neg (whole 1)) ∷ []) (whole 4611686018427387904) ∷ [];
+  cost = record { terms = []; constant = whole 0 };
+  branch = [];
+}
+
+-- ---- a cost that doesn't fit, with no rows
+abbrev pub dear : Problem
+dear = record {
+  boxes = box (whole 9223372036854775807) (whole 9223372036854775807) ∷ [];
+  rows = [];
+  cost = record { terms = term 0 (whole 3) ∷ []; constant = whole 0 };
+  branch = [];
+}
+
+-- ---- a row that can't be brought to its range, and whose sum doesn't fit
+abbrev pub sunk : Problem
+sunk = record {
+  boxes = box (whole 9223372036854775807) (whole 9223372036854775807) ∷ [];
+  rows = at_most_row (term 0 (whole 3) ∷ []) (neg (whole 1)) ∷ [];
+  cost = record { terms = []; constant = whole 0 };
+  branch = [];
+}

@@ -4,7 +4,7 @@ ghost use Rattle.hys_simplex.specs.Laws.{PivotKeeps, PathReaches, RuledReaches, 
 ghost use Rattle.hys_simplex.specs.Laws.{CostRow, RuledRises, RuledIsLawful, BoundAfterPath};
 ghost use Rattle.hys_simplex.specs.Laws.{PathBelow, PathGoesOn, NoStatusTwice, RunEnds};
 ghost use Rattle.hys_simplex.specs.Laws.{BlockedRow, AllInsideIsLeast, LostIsUnfit, WorkedPaths};
-ghost use Rattle.hys_simplex.specs.Laws.{StrandedShowsNone, UnfitIsRuled, UpwardPath, WorkedUnfit};
+ghost use Rattle.hys_simplex.specs.Laws.{StrandedShowsNone, UnfitIsRuled, UpwardPath, WorkedUnfit, EquationSlack};
 ghost use Rattle.hys_simplex.specs.Laws.{AlikePivots, AlikeSay};
 
 /// A pivot keeps the solutions of the rows, in both directions.
@@ -122,4 +122,9 @@ pub fn upward_path()
 /// Numbers of worked problems that don't fit, and that do.
 pub fn worked_unfit()
     ensures { WorkedUnfit }
+{}
+
+/// The slack of an equation never enters, though its ratio is the least.
+pub fn equation_slack()
+    ensures { EquationSlack }
 {}

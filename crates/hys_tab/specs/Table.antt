@@ -21,8 +21,11 @@ pub record Table : Type 0 where
 
 -- a table is stored as its three lists
 abbrev pub table_code : Coded Table
-table_code = code_by (List Number × (List ℕ × List ℕ)) (coded× (coded_list number_code) (coded× (coded_list coded_ℕ) (coded_list coded_ℕ)))
-    (λ t. (t.cells, (t.basics, t.outsides))) (λ p. record { cells = p.0; basics = p.1.0; outsides = p.1.1 }) (λ _. refl)
+table_code = code_by (List Number × (List ℕ × List ℕ))
+    (coded× (coded_list number_code) (coded× (coded_list coded_ℕ) (coded_list coded_ℕ)))
+    (λ t. (t.cells, (t.basics, t.outsides)))
+    (λ p. record { cells = p.0; basics = p.1.0; outsides = p.1.1 })
+    (λ _. refl)
 
 -- the tableau; the cost is basic in the last row
 abbrev pub tableau_of : Table → Tableau

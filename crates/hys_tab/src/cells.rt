@@ -1,7 +1,8 @@
-ghost use Rattle.std.specs.Prelude.{◌≡◌, ◌≢◌, ◌<◌, ◌≤◌, ◌*◌, ℕ, length, true, IsTrue, IsSome, IfSome, ◌↔◌};
-ghost use Rattle.hys_number.specs.Ops.{◌-ₙ◌, ◌*ₙ◌, ◌/ₙ◌, whole, fits as fits_of};
-ghost use Rattle.hys_simplex.specs.Tableau.{pivoted};
-ghost use Rattle.hys_tab.specs.Cells.{cell_at, fits_under, AllFit, IsFirstIn, IsFirstAt, IsOther};
+ghost use Rattle.std.specs.Prelude.{◌≡◌, ◌≢◌, ◌<◌, ◌*◌, length, true, IsTrue, IsSome, IfSome, ◌↔◌};
+ghost use Rattle.hys_number.specs.Ops.{◌-ₙ◌, ◌*ₙ◌, ◌/ₙ◌, whole};
+ghost use Rattle.hys_tab.specs.Cells.{cell_at, AllFit, IsFirstIn, IsFirstAt, AreCells, IsRowOf};
+ghost use Rattle.hys_tab.specs.Cells.{OtherRowsStay, OtherCellsStay, BothFit};
+ghost use Rattle.hys_tab.specs.Cells.{fits_at, pivoted_at, AllFitUnder, RowFitsUnder};
 
 use hys_frac::Frac;
 
@@ -33,8 +34,8 @@ pub fn new_cell(cells: &[Frac], pivot: Pivot, i: usize, j: usize) -> Option<Frac
     requires column_j { j < pivot.width }
     requires some { cell_at cells.now pivot.width pivot.row pivot.column ≢ whole 0 }
     requires fit { AllFit cells.now pivot.height pivot.width }
-    ensures value { IfSome result (λ x. x ≡ pivoted (cell_at cells.now pivot.width) pivot.row pivot.column i j) }
-    ensures fits { IsSome result ↔ IsTrue (fits_under (cell_at cells.now pivot.width) pivot.row pivot.column i j) }
+    ensures value { IfSome result (λ x. x ≡ pivoted_at cells.now pivot.width pivot.row pivot.column i j) }
+    ensures fits { IsSome result ↔ IsTrue (fits_at cells.now pivot.width pivot.row pivot.column i j) }
 {
     let divisor = cell(cells, pivot, pivot.row, pivot.column);
     let old = cell(cells, pivot, i, j);
@@ -58,7 +59,7 @@ pub fn new_cell(cells: &[Frac], pivot: Pivot, i: usize, j: usize) -> Option<Frac
 fn less_multiple(old: Frac, factor: Frac, across: Frac, divisor: Frac) -> Option<Frac>
     requires { divisor ≢ whole 0 }
     ensures value { IfSome result (λ x. x ≡ old -ₙ factor *ₙ (across /ₙ divisor)) }
-    ensures fits { IsSome result ↔ (IsTrue (fits_of (factor *ₙ (across /ₙ divisor))) × IsTrue (fits_of (old -ₙ factor *ₙ (across /ₙ divisor)))) }
+    ensures fits { IsSome result ↔ BothFit (factor *ₙ (across /ₙ divisor)) (old -ₙ factor *ₙ (across /ₙ divisor)) }
 {
     match factor.mul_div(across, divisor) {
         None => None,
@@ -74,7 +75,7 @@ pub fn first_in_row(cells: &[Frac], pivot: Pivot, i: usize) -> Option<usize>
     requires row_i { i < pivot.height }
     requires some { cell_at cells.now pivot.width pivot.row pivot.column ≢ whole 0 }
     requires fit { AllFit cells.now pivot.height pivot.width }
-    ensures { IsFirstIn (fits_under (cell_at cells.now pivot.width) pivot.row pivot.column i) pivot.width result }
+    ensures { IsFirstIn (fits_at cells.now pivot.width pivot.row pivot.column i) pivot.width result }
 {
     if i != pivot.row && cell(cells, pivot, i, pivot.column).is_zero() {
         return None;
@@ -94,7 +95,7 @@ pub fn first_unfit(cells: &[Frac], pivot: Pivot) -> Option<(usize, usize)>
     requires column { pivot.column < pivot.width }
     requires some { cell_at cells.now pivot.width pivot.row pivot.column ≢ whole 0 }
     requires fit { AllFit cells.now pivot.height pivot.width }
-    ensures { IsFirstAt (fits_under (cell_at cells.now pivot.width) pivot.row pivot.column) pivot.height pivot.width result }
+    ensures { IsFirstAt (fits_at cells.now pivot.width pivot.row pivot.column) pivot.height pivot.width result }
 {
     for i in 0..pivot.height {
         if let Some(j) = first_in_row(cells, pivot, i) {
@@ -110,10 +111,10 @@ pub fn write_rows(cells: &mut [Frac], pivot: Pivot)
     requires row { pivot.row < pivot.height }
     requires column { pivot.column < pivot.width }
     requires some { cell_at cells.old pivot.width pivot.row pivot.column ≢ whole 0 }
-    requires all { (a b : ℕ) → a < pivot.height → b < pivot.width → fits_under (cell_at cells.old pivot.width) pivot.row pivot.column a b ≡ true }
+    requires all { AllFitUnder cells.old pivot.height pivot.width pivot.row pivot.column }
     requires fit { AllFit cells.old pivot.height pivot.width }
     ensures shape { length cells.new ≡ length cells.old }
-    ensures done { (a b : ℕ) → a < pivot.height → b < pivot.width → cell_at cells.new pivot.width a b ≡ pivoted (cell_at cells.old pivot.width) pivot.row pivot.column a b }
+    ensures done { AreCells cells.new pivot.height pivot.width (pivoted_at cells.old pivot.width pivot.row pivot.column) }
 {
     for i in 0..pivot.height {
         if i != pivot.row {
@@ -130,11 +131,11 @@ fn write_row(cells: &mut [Frac], pivot: Pivot, i: usize)
     requires column { pivot.column < pivot.width }
     requires row_i { i < pivot.height }
     requires some { cell_at cells.old pivot.width pivot.row pivot.column ≢ whole 0 }
-    requires all { (b : ℕ) → b < pivot.width → fits_under (cell_at cells.old pivot.width) pivot.row pivot.column i b ≡ true }
+    requires all { RowFitsUnder cells.old pivot.width pivot.row pivot.column i }
     requires fit { AllFit cells.old pivot.height pivot.width }
     ensures shape { length cells.new ≡ length cells.old }
-    ensures there { (b : ℕ) → b < pivot.width → cell_at cells.new pivot.width i b ≡ pivoted (cell_at cells.old pivot.width) pivot.row pivot.column i b }
-    ensures others { (a b : ℕ) → a < pivot.height → b < pivot.width → a ≢ i → cell_at cells.new pivot.width a b ≡ cell_at cells.old pivot.width a b }
+    ensures there { IsRowOf cells.new pivot.width i (pivoted_at cells.old pivot.width pivot.row pivot.column i) }
+    ensures others { OtherRowsStay cells.old cells.new pivot.height pivot.width i }
 {
     if i != pivot.row && cell(cells, pivot, i, pivot.column).is_zero() {
         return;
@@ -155,11 +156,11 @@ fn write_cell(cells: &mut [Frac], pivot: Pivot, i: usize, j: usize)
     requires row_i { i < pivot.height }
     requires column_j { j < pivot.width }
     requires some { cell_at cells.old pivot.width pivot.row pivot.column ≢ whole 0 }
-    requires here { fits_under (cell_at cells.old pivot.width) pivot.row pivot.column i j ≡ true }
+    requires here { fits_at cells.old pivot.width pivot.row pivot.column i j ≡ true }
     requires fit { AllFit cells.old pivot.height pivot.width }
     ensures shape { length cells.new ≡ length cells.old }
-    ensures there { cell_at cells.new pivot.width i j ≡ pivoted (cell_at cells.old pivot.width) pivot.row pivot.column i j }
-    ensures others { (a b : ℕ) → a < pivot.height → b < pivot.width → IsOther i j a b → cell_at cells.new pivot.width a b ≡ cell_at cells.old pivot.width a b }
+    ensures there { cell_at cells.new pivot.width i j ≡ pivoted_at cells.old pivot.width pivot.row pivot.column i j }
+    ensures others { OtherCellsStay cells.old cells.new pivot.height pivot.width i j }
 {
     if let Some(x) = new_cell(cells, pivot, i, j) {
         cells[i * pivot.width + j] = x;

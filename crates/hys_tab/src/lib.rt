@@ -5,5 +5,7 @@ mod cells;
 mod reading;
 mod slack_basis;
 mod tableau;
+#[cfg(test)]
+mod tests;
 
 pub use tableau::{Cell, Tableau, start};

@@ -1,8 +1,8 @@
-ghost use Rattle.std.specs.Prelude.{◌≡◌, ◌≢◌, ◌+◌, ◌*◌, ◌^◌, ◌<◌, ◌++◌, ℕ, length, IfOk};
-ghost use Rattle.std.specs.List.{slice_index_or};
-ghost use Rattle.hys_number.specs.Ops.{neg, whole};
+ghost use Rattle.std.specs.Prelude.{◌≡◌, ◌+◌, ◌*◌, ◌^◌, ◌<◌, ◌++◌, length, IfOk};
+ghost use Rattle.hys_number.specs.Ops.{neg};
 ghost use Rattle.hys_simplex.specs.Unfit.{pairs_to};
-ghost use Rattle.hys_tab.specs.Cells.{negated_cost, some_pair, DifferentBelow};
+ghost use Rattle.hys_tab.specs.Cells.{some_pair, number_at, DifferentBelow};
+ghost use Rattle.hys_tab.specs.Cells.{AreNegatedCosts, HasForSlack, OtherSlacksStay};
 
 use hys_frac::Frac;
 use std::alloc::{AllocError, AllocFailed, Global};
@@ -17,7 +17,7 @@ pub fn negated_costs(
     requires shape { length cells.now ≡ (rows + 1) * (length outside.now + 1) }
     requires places { DifferentBelow (length outside.now + rows) outside.now }
     ensures long { IfOk result (λ v. length v.items ≡ rows) }
-    ensures each { IfOk result (λ v. (k : ℕ) → k < rows → slice_index_or v.items k (whole 0) ≡ negated_cost cells.now outside.now rows (length outside.now) k) }
+    ensures each { IfOk result (λ v. AreNegatedCosts cells.now outside.now rows v.items) }
 {
     let columns = outside.len();
     let mut list = vec![in alloc; Frac::whole(0); rows]?;
@@ -32,8 +32,8 @@ pub fn negated_costs(
 fn put_negated(list: &mut Vec<Frac>, columns: usize, variable: usize, cost: Frac)
     requires { variable < columns + length list.old.items }
     ensures long { length list.new.items ≡ length list.old.items }
-    ensures there { (k : ℕ) → k < length list.old.items → variable ≡ columns + k → slice_index_or list.new.items k (whole 0) ≡ neg cost }
-    ensures others { (k : ℕ) → variable ≢ columns + k → slice_index_or list.new.items k (whole 0) ≡ slice_index_or list.old.items k (whole 0) }
+    ensures there { HasForSlack columns variable (neg cost) list.new.items }
+    ensures others { OtherSlacksStay columns variable list.old.items list.new.items }
 {
     if variable >= columns {
         list[variable - columns] = cost.neg();
@@ -43,7 +43,7 @@ fn put_negated(list: &mut Vec<Frac>, columns: usize, variable: usize, cost: Frac
 /// The numbers that aren't 0, each with its place.
 pub fn without_zeros(alloc: Global, numbers: &[Frac]) -> Result<Vec<(u32, Frac)>, AllocError>
     requires { length numbers.now < 2 ^ 32 }
-    ensures { IfOk result (λ v. v.items ≡ pairs_to (length numbers.now) (λ k. slice_index_or numbers.now k (whole 0))) }
+    ensures { IfOk result (λ v. v.items ≡ pairs_to (length numbers.now) (number_at numbers.now)) }
 {
     let mut pairs = Vec::new(alloc);
     for k in 0..numbers.len() {

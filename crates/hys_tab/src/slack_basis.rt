@@ -1,10 +1,10 @@
-ghost use Rattle.std.specs.Prelude.{◌≡◌, ◌≢◌, ◌+◌, ◌*◌, ◌<◌, ◌≤◌, ℕ, length, true, false};
+ghost use Rattle.std.specs.Prelude.{◌≡◌, ◌+◌, ◌*◌, ◌<◌, length, true};
 ghost use Rattle.hys_number.specs.Ops.{whole, fits};
 ghost use Rattle.hys_lin.specs.Sums.{EachColumn};
 ghost use Rattle.hys_lin.specs.Problem.{IsProblem};
-ghost use Rattle.hys_relax.specs.LinearProgram.{linear_program};
-ghost use Rattle.hys_simplex.specs.Tableau.{start as start_of};
-ghost use Rattle.hys_tab.specs.Cells.{cell_at, row_of, slack_cell, turned as turned_of, AllFit, IsOther};
+ghost use Rattle.hys_tab.specs.Cells.{cell_at, slack_cell, slack_row, turned as turned_of, AllFit, AreCells};
+ghost use Rattle.hys_tab.specs.Cells.{IsRowOf, AreBlankFrom, OtherRowsStay, OtherCellsStay, TermsBelow};
+ghost use Rattle.hys_tab.specs.Cells.{IsBlankFor, HoldsStart};
 
 use hys_frac::Frac;
 use hys_lin::{Problem, Row, Term};
@@ -13,9 +13,9 @@ use hys_lin::{Problem, Row, Term};
 pub fn fill(cells: &mut [Frac], problem: &Problem)
     requires problem { IsProblem problem.now }
     requires shape { length cells.old ≡ (length problem.now.rows + 1) * (length problem.now.boxes + 1) }
-    requires blank { (a b : ℕ) → a < length problem.now.rows + 1 → b < length problem.now.boxes + 1 → cell_at cells.old (length problem.now.boxes + 1) a b ≡ whole 0 }
+    requires blank { IsBlankFor problem.now cells.old }
     ensures shape { length cells.new ≡ length cells.old }
-    ensures there { (a b : ℕ) → a < length problem.now.rows + 1 → b < length problem.now.boxes + 1 → cell_at cells.new (length problem.now.boxes + 1) a b ≡ (start_of (linear_program problem.now)).cell a b }
+    ensures there { HoldsStart problem.now cells.new }
     ensures fit { AllFit cells.new (length problem.now.rows + 1) (length problem.now.boxes + 1) }
 {
     let rows = problem.rows.items();
@@ -38,11 +38,11 @@ fn fill_rows(cells: &mut [Frac], height: usize, width: usize, rows: &[Row])
     requires shape { length cells.old ≡ height * width }
     requires few { length rows.now < height }
     requires column { 0 < width }
-    requires below { (i : ℕ) → i < length rows.now → EachColumn (λ c. c + 1 < width) (row_of rows.now i).terms }
-    requires blank { (a b : ℕ) → a < height → b < width → cell_at cells.old width a b ≡ whole 0 }
+    requires below { TermsBelow width rows.now }
+    requires blank { AreCells cells.old height width (λ i j. whole 0) }
     ensures shape { length cells.new ≡ length cells.old }
-    ensures there { (a b : ℕ) → a < length rows.now → b < width → cell_at cells.new width a b ≡ slack_cell width (row_of rows.now a).terms (row_of rows.now a).bound false b }
-    ensures blank { (a b : ℕ) → length rows.now ≤ a → a < height → b < width → cell_at cells.new width a b ≡ whole 0 }
+    ensures there { AreCells cells.new (length rows.now) width (slack_row width rows.now) }
+    ensures blank { AreBlankFrom (length rows.now) cells.new height width }
     ensures fit { AllFit cells.new height width }
 {
     for i in 0..rows.len() {
@@ -65,11 +65,11 @@ fn fill_row(
     requires row { i < height }
     requires column { 0 < width }
     requires below { EachColumn (λ c. c + 1 < width) terms.now }
-    requires blank { (b : ℕ) → b < width → cell_at cells.old width i b ≡ whole 0 }
+    requires blank { IsRowOf cells.old width i (λ j. whole 0) }
     requires fit { AllFit cells.old height width }
     ensures shape { length cells.new ≡ length cells.old }
-    ensures there { (b : ℕ) → b < width → cell_at cells.new width i b ≡ slack_cell width terms.now constant negated b }
-    ensures others { (a b : ℕ) → a < height → b < width → a ≢ i → cell_at cells.new width a b ≡ cell_at cells.old width a b }
+    ensures there { IsRowOf cells.new width i (slack_cell width terms.now constant negated) }
+    ensures others { OtherRowsStay cells.old cells.new height width i }
     ensures fit { AllFit cells.new height width }
 {
     put(cells, height, width, i, width - 1, constant);
@@ -97,7 +97,7 @@ fn put(cells: &mut [Frac], height: usize, width: usize, i: usize, j: usize, numb
     requires fit { AllFit cells.old height width }
     ensures shape { length cells.new ≡ length cells.old }
     ensures there { cell_at cells.new width i j ≡ number }
-    ensures others { (a b : ℕ) → a < height → b < width → IsOther i j a b → cell_at cells.new width a b ≡ cell_at cells.old width a b }
+    ensures others { OtherCellsStay cells.old cells.new height width i j }
     ensures fit { AllFit cells.new height width }
 {
     cells[i * width + j] = fitting(number);

@@ -15,5 +15,5 @@ pub loop-j-preserved : goal.loop-j-preserved
 loop-j-preserved c = (
   c.put_negated.ensures.long ∙ c.loop-j.invariant.0,
   next_costs c.args.cells.now c.loop-j.list.items c.put_negated.new.list.items c.args.outside.now c.args.rows c.loop-j.j _ (length c.args.outside.now + c.args.rows) c.index-cells-rows.result c.requires.places c.loop-j-test.true
-      refl (c.index-cells-rows.is ∙ get_or_default c.args.cells.now _ c.index-cells-rows.result (whole 0) (omega (arith, c.requires.shape, c.loop-j-test.true))) (λ i l e. c.put_negated.ensures.there i (omega (arith, l, c.loop-j.invariant.0)) e) c.put_negated.ensures.others c.loop-j.invariant.1,
+      refl (c.index-cells-rows.is ∙ get_or_default c.args.cells.now _ c.index-cells-rows.result (whole 0) (omega (arith, c.requires.shape, c.loop-j-test.true))) (λ i l e. c.put_negated.ensures.there i (omega (arith, l, c.put_negated.ensures.long, c.loop-j.invariant.0)) e) c.put_negated.ensures.others c.loop-j.invariant.1,
 )
