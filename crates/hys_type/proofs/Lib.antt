@@ -37,3 +37,4 @@ pub mod Unboxed
 pub mod Wholes
 pub mod SparseForms
 pub mod Guards
+pub mod Passing

@@ -16,3 +16,4 @@ pub mod SameMeaning
 pub mod SmallProgram
 pub mod Made
 pub mod Built
+pub mod TwoFaults

@@ -16,6 +16,7 @@ mod names;
 mod node;
 mod parameters;
 mod right;
+pub mod rules;
 mod scope;
 
 pub use built::{Guard, affine, difference, guard_number, sparse};

@@ -1,0 +1,35 @@
+//! What the checks of a source and the rules of the language have to do with each other, as calls
+//! that do nothing.
+
+ghost use Rattle.std.specs.Prelude.{◌≡◌, List, [], ◌∷◌, Some, None, true, codes};
+ghost use Rattle.hys_number.specs.Ops.{whole, neg};
+ghost use Rattle.hys_lin.specs.Operations.{minus};
+ghost use Rattle.hys_ast.specs.Tree as tree;
+ghost use Rattle.hys_ast.specs.declared.source.Kind.TheVariants as kind;
+ghost use Rattle.hys_ast.specs.declared.tree.BinaryOp.TheVariants as binary;
+ghost use Rattle.hys_ast.specs.declared.tree.UnaryOp.TheVariants as unary;
+ghost use Rattle.hys_meaning.specs.Values.{literal};
+ghost use Rattle.hys_type.specs.Checks.{fault_of};
+ghost use Rattle.hys_type.specs.Examples.{spot, digits, name, zero_at, ten_at, state, next, source, stepping};
+ghost use Rattle.hys_type.specs.TwoFaults.{x_at, two, largest_at, parameter, linear, guarding};
+ghost use Rattle.hys_type.specs.declared.fault.TypeFault.TheVariants as fault;
+
+/// The first of two faults: names before values before boxes before items before names that are
+/// missing; at an item its left name, then its expressions in the order of the text, a tolerance
+/// behind its comparison; in an expression operands before operators, and at a node kind before
+/// linearity before divisors before range.
+pub fn fault_orders()
+    ensures comparison_first { fault_of (guarding (two binary.Most 51 (name (codes "z") 52) (zero_at 53)) (zero_at 54)) ≡ Some (fault.Unknown (spot 52)) }
+    ensures tolerance_next { fault_of (guarding (two binary.Most 51 (x_at 52) (zero_at 53)) (zero_at 54)) ≡ Some (fault.Tolerance (spot 50) (whole 0)) }
+    ensures product_first { fault_of (guarding (two binary.Mul 51 (x_at 52) (x_at 53)) (zero_at 54)) ≡ Some (fault.NotLinear (spot 51)) }
+    ensures no_comparison { fault_of (guarding (x_at 52) (zero_at 54)) ≡ Some (fault.Kind (spot 52)) }
+    ensures section_first { fault_of (source (state (zero_at 2) (ten_at 3) ∷ []) (next (zero_at 6) ∷ linear (name (codes "z") 61) ∷ [])) ≡ Some (fault.WrongSection (spot 60)) }
+    ensures left_name_first { fault_of (source (state (zero_at 2) (ten_at 3) ∷ []) (next (zero_at 6) ∷ next (name (codes "z") 7) ∷ [])) ≡ Some (fault.DefinedTwice (spot 5)) }
+    ensures values_first { fault_of (source (state (ten_at 2) (zero_at 3) ∷ parameter kind.Real None ∷ []) []) ≡ Some (fault.NoValue (spot 40)) }
+    ensures boxes_first { fault_of (source (state (ten_at 2) (zero_at 3) ∷ []) (next (name (codes "z") 6) ∷ [])) ≡ Some (fault.EmptyBounds (spot 1) (whole 10) (whole 0)) }
+    ensures low_end_first { fault_of (source (state (tree.Truth true (spot 2)) (name (codes "z") 3) ∷ []) []) ≡ Some (fault.Kind (spot 2)) }
+    ensures kind_of_constants { fault_of (source (parameter kind.Bool (Some (two binary.Most 41 (largest_at 42) (tree.Unary unary.Neg (digits (codes "1") 44) (spot 43)))) ∷ []) []) ≡ Some (fault.Kind (spot 41)) }
+    ensures guard_number_first { fault_of (stepping (two binary.Add 6 (two binary.Most 7 (two binary.Mul 8 (largest_at 9) (x_at 10)) (tree.Unary unary.Neg (x_at 12) (spot 11))) (digits (codes "1") 13))) ≡ Some (fault.Range (spot 7) (minus (literal (codes "9223372036854775807")) (neg (whole 1)))) }
+    ensures divisor_of_no_term { fault_of (stepping (two binary.Div 6 (x_at 7) (two binary.Sub 8 (x_at 9) (x_at 10)))) ≡ Some (fault.ZeroDivisor (spot 6)) }
+    ensures left_operand_first { fault_of (stepping (two binary.Add 6 (two binary.Div 7 (x_at 8) (zero_at 9)) (name (codes "z") 10))) ≡ Some (fault.ZeroDivisor (spot 7)) }
+{}
