@@ -38,3 +38,5 @@ pub mod Wholes
 pub mod SparseForms
 pub mod Guards
 pub mod Passing
+pub mod Linear
+pub mod NodeRules

@@ -17,3 +17,4 @@ pub mod SmallProgram
 pub mod Made
 pub mod Built
 pub mod TwoFaults
+pub mod Written
