@@ -339,3 +339,114 @@ kept ns ms s k (tree.Unary op a p) w q c =
     let l = kept ns ms s k a w q (pass_front (node_checks ns a) _ c) in
     record { guards = l.guards; part = signed_part ms op (named k a).part p (sort ns a) (pass_behind (node_checks ns a) _ c).0 l.part; numbers = l.numbers }
 kept ns ms s k (tree.Binary op a b p) w q c = joined ns ms s k a b p w.0 w.1 op q c (kept ns ms s k a w.0) (kept ns ms s (named k a).next b w.1)
+
+-- ---- to the checks
+-- the checks pass, and the expression is of the kind
+abbrev pub Fine : List Name → Tree → Sort → Type 0
+Fine ns e t = Pass (node_checks ns e) × (sort ns e ≡ t)
+
+signed_fine : (ns : List Name) (op : UnaryOp) (a : Tree) (p : Place) (t : Sort) → Fine ns a t → takes_unary op t ≡ true → Pass (node_checks ns (tree.Unary op a p))
+signed_fine ns op a p t f h = pass_join (node_checks ns a) _ f.0 (ap (takes_unary op) f.1 ∙ h, tt)
+
+module _ (ns ms : List Name) (same : SameNames ns ms) (k : ℕ) (a b : Tree) (p : Place) (w : NamesNoGuard a) (x : NamesNoGuard b) where
+  abbrev before : List Guard
+  before = (named k a).guards
+
+  abbrev next : ℕ
+  next = (named k a).next
+
+  abbrev after : List Guard
+  after = (named next b).guards
+
+  both_fine : (op : BinaryOp) (t u : Sort) → Fine ns a t → Fine ns b u → takes_binary op t u ≡ true → Pass (linear_checks ns op (form ns a) (form ns b) p) → Fit (numbers_of ns (tree.Binary op a b p)) → Pass (node_checks ns (tree.Binary op a b p))
+  both_fine op t u f g h l n =
+      let os : List Lost = folding ns op (form ns a) (form ns b) in
+      let z : Fit (all_at p os) = all_behind _ (numbers_of ns b) (all_at p os) (all_behind _ (numbers_of ns a) (numbers_of ns b ++ all_at p os) n) in
+      pass_join (node_checks ns a) _ f.0
+      (pass_join (node_checks ns b) _ g.0 (ap₂ (takes_binary op) f.1 g.1 ∙ h, pass_join (linear_checks ns op (form ns a) (form ns b) p) (in_range p os) l (fit_range p os z)))
+
+  linear_of : (op : BinaryOp) → AreNamed ms (before ++ after) → IsReal ms (tree.Binary op (named k a).part (named next b).part p) → Pass (linear_checks ns op (form ns a) (form ns b) p)
+  linear_of op q r =
+      folds_linear ns op (form ns a) (form ns b) p
+      (subst₂ (λ (f g : Form). Folds op f g) (real_same ns ms same k a w (all_front _ before after q) r.0) (real_same ns ms same next b x (all_behind _ before after q) r.1) r.2)
+
+  -- what is known of an operand
+  abbrev Left : Type 0
+  Left = AreNamed ms before → Compare ms before → (t : Sort) → IsSorted t ms (named k a).part → Fit (numbers_of ns a) → Fine ns a t
+
+  abbrev Right : Type 0
+  Right = AreNamed ms after → Compare ms after → (t : Sort) → IsSorted t ms (named next b).part → Fit (numbers_of ns b) → Fine ns b t
+
+  operands : (op : BinaryOp) (t : Sort) → takes_binary op t t ≡ true → Pass (linear_checks ns op (form ns a) (form ns b) p) → AreNamed ms (before ++ after) → Compare ms (before ++ after) →
+      IsSorted t ms (named k a).part → IsSorted t ms (named next b).part → Fit (numbers_of ns (tree.Binary op a b p)) → Left → Right → Pass (node_checks ns (tree.Binary op a b p))
+  operands op t h l q c i j n f g =
+      let os : List Lost = folding ns op (form ns a) (form ns b) in
+      let y : Fit (numbers_of ns b ++ all_at p os) = all_behind _ (numbers_of ns a) (numbers_of ns b ++ all_at p os) n in
+      both_fine op t t (f (all_front _ before after q) (all_front _ before after c) t i (all_front _ (numbers_of ns a) (numbers_of ns b ++ all_at p os) n))
+      (g (all_behind _ before after q) (all_behind _ before after c) t j (all_front _ (numbers_of ns b) (all_at p os) y)) h l n
+
+  fine_binary : (op : BinaryOp) → AreNamed ms (named k (tree.Binary op a b p)).guards → Compare ms (named k (tree.Binary op a b p)).guards → (t : Sort) → IsSorted t ms (named k (tree.Binary op a b p)).part →
+      Fit (numbers_of ns (tree.Binary op a b p)) → Left → Right → Fine ns (tree.Binary op a b p) t
+  fine_binary binary.Add q c Real i n f g = (operands binary.Add Real refl (linear_of binary.Add q i) q c i.0 i.1 n f g, refl)
+  fine_binary binary.Add q c Bool' i n f g = let h = i.0 in absurd (cc)
+  fine_binary binary.Add q c Neither i n f g = let h = i.0 in absurd (cc)
+  fine_binary binary.Sub q c Real i n f g = (operands binary.Sub Real refl (linear_of binary.Sub q i) q c i.0 i.1 n f g, refl)
+  fine_binary binary.Sub q c Bool' i n f g = let h = i.0 in absurd (cc)
+  fine_binary binary.Sub q c Neither i n f g = let h = i.0 in absurd (cc)
+  fine_binary binary.Mul q c Real i n f g = (operands binary.Mul Real refl (linear_of binary.Mul q i) q c i.0 i.1 n f g, refl)
+  fine_binary binary.Mul q c Bool' i n f g = let h = i.0 in absurd (cc)
+  fine_binary binary.Mul q c Neither i n f g = let h = i.0 in absurd (cc)
+  fine_binary binary.Div q c Real i n f g = (operands binary.Div Real refl (linear_of binary.Div q i) q c i.0 i.1 n f g, refl)
+  fine_binary binary.Div q c Bool' i n f g = let h = i.0 in absurd (cc)
+  fine_binary binary.Div q c Neither i n f g = let h = i.0 in absurd (cc)
+  fine_binary binary.And q c Real i n f g = absurd i.2
+  fine_binary binary.And q c Bool' i n f g = (operands binary.And Bool' refl tt q c i.1 i.2 n f g, refl)
+  fine_binary binary.And q c Neither i n f g = let h = i.0 in absurd (cc)
+  fine_binary binary.Or q c Real i n f g = absurd i.2
+  fine_binary binary.Or q c Bool' i n f g = (operands binary.Or Bool' refl tt q c i.1 i.2 n f g, refl)
+  fine_binary binary.Or q c Neither i n f g = let h = i.0 in absurd (cc)
+  fine_binary binary.Iff q c Real i n f g = absurd i.2
+  fine_binary binary.Iff q c Bool' i n f g = (operands binary.Iff Bool' refl tt q c i.1 i.2 n f g, refl)
+  fine_binary binary.Iff q c Neither i n f g = let h = i.0 in absurd (cc)
+  fine_binary binary.Then q c Real i n f g = absurd i.2
+  fine_binary binary.Then q c Bool' i n f g = (operands binary.Then Bool' refl tt q c i.1 i.2 n f g, refl)
+  fine_binary binary.Then q c Neither i n f g = let h = i.0 in absurd (cc)
+  fine_binary binary.From q c Real i n f g = absurd i.2
+  fine_binary binary.From q c Bool' i n f g = (operands binary.From Bool' refl tt q c i.1 i.2 n f g, refl)
+  fine_binary binary.From q c Neither i n f g = let h = i.0 in absurd (cc)
+  fine_binary binary.Most q c Real i n f g = absurd (guard_not_real (look ms (guard_name (named next b).next)) (all_behind _ (before ++ after) _ q).0 i)
+  fine_binary binary.Most q c Bool' i n f g = let e : IsComparison is_inequality ms (tree.Binary binary.Most (named k a).part (named next b).part p) = (all_behind _ (before ++ after) _ c).0 in (operands binary.Most Real refl tt (all_front _ (before ++ after) _ q) (all_front _ (before ++ after) _ c) e.1 e.2 n f g, refl)
+  fine_binary binary.Most q c Neither i n f g = absurd i
+  fine_binary binary.Least q c Real i n f g = absurd (guard_not_real (look ms (guard_name (named next b).next)) (all_behind _ (before ++ after) _ q).0 i)
+  fine_binary binary.Least q c Bool' i n f g = let e : IsComparison is_inequality ms (tree.Binary binary.Least (named k a).part (named next b).part p) = (all_behind _ (before ++ after) _ c).0 in (operands binary.Least Real refl tt (all_front _ (before ++ after) _ q) (all_front _ (before ++ after) _ c) e.1 e.2 n f g, refl)
+  fine_binary binary.Least q c Neither i n f g = absurd i
+  fine_binary binary.Equal q c Real i n f g = absurd i.2
+  fine_binary binary.Equal q c Bool' i n f g = let h = i.0 in absurd (cc)
+  fine_binary binary.Equal q c Neither i n f g = (operands binary.Equal Real refl tt q c i.1 i.2 n f g, refl)
+
+fine_unary : (ns ms : List Name) (op : UnaryOp) (a c : Tree) (p : Place) (t : Sort) → IsSorted t ms (tree.Unary op c p) → ((u : Sort) → IsSorted u ms c → Fine ns a u) → Fine ns (tree.Unary op a p) t
+fine_unary ns ms unary.Not a c p Real i f = let h = i.0 in absurd (cc)
+fine_unary ns ms unary.Not a c p Bool' i f = (signed_fine ns unary.Not a p Bool' (f Bool' i.1) refl, refl)
+fine_unary ns ms unary.Not a c p Neither i f = absurd i
+fine_unary ns ms unary.Neg a c p Real i f = (signed_fine ns unary.Neg a p Real (f Real i.1) refl, refl)
+fine_unary ns ms unary.Neg a c p Bool' i f = let h = i.0 in absurd (cc)
+fine_unary ns ms unary.Neg a c p Neither i f = absurd i
+fine_unary ns ms unary.Plus a c p Real i f = (signed_fine ns unary.Plus a p Real (f Real i.1) refl, refl)
+fine_unary ns ms unary.Plus a c p Bool' i f = let h = i.0 in absurd (cc)
+fine_unary ns ms unary.Plus a c p Neither i f = absurd i
+
+pub fine : (ns ms : List Name) → SameNames ns ms → (k : ℕ) (e : Tree) → NamesNoGuard e → AreNamed ms (named k e).guards → Compare ms (named k e).guards → (t : Sort) → IsSorted t ms (named k e).part → Fit (numbers_of ns e) → Fine ns e t
+fine ns ms s k (tree.Number text p) w q c Real i n = ((n.0, tt), refl)
+fine ns ms s k (tree.Number text p) w q c Bool' i n = absurd i
+fine ns ms s k (tree.Number text p) w q c Neither i n = absurd i
+fine ns ms s k (tree.Name m p) w q c Real i n = real_name (look ns m) p (subst (λ (o : Option Name). IsTrue (may_stand typed.is_real o)) (s m w) i)
+fine ns ms s k (tree.Name m p) w q c Bool' i n = formula_name (look ns m) p (subst (λ (o : Option Name). IsTrue (may_stand typed.is_bool o)) (s m w) i)
+fine ns ms s k (tree.Name m p) w q c Neither i n = absurd i
+fine ns ms s k (tree.Truth b p) w q c Real i n = absurd i
+fine ns ms s k (tree.Truth b p) w q c Bool' i n = (tt, refl)
+fine ns ms s k (tree.Truth b p) w q c Neither i n = absurd i
+fine ns ms s k (tree.Cast m p) w q c Real i n = (cast_name (look ns m) p (subst (λ (o : Option Name). IsTrue (may_stand typed.is_bool o)) (s m w) i), refl)
+fine ns ms s k (tree.Cast m p) w q c Bool' i n = absurd i
+fine ns ms s k (tree.Cast m p) w q c Neither i n = absurd i
+fine ns ms s k (tree.Unary op a p) w q c t i n = fine_unary ns ms op a (named k a).part p t i (λ u j. fine ns ms s k a w q c u j n)
+fine ns ms s k (tree.Binary op a b p) w q c t i n = fine_binary ns ms s k a b p w.0 w.1 op q c t i n (fine ns ms s k a w.0) (fine ns ms s (named k a).next b w.1)
