@@ -40,3 +40,4 @@ pub mod Guards
 pub mod Passing
 pub mod Linear
 pub mod NodeRules
+pub mod ConstantRules

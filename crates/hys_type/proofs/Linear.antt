@@ -26,12 +26,12 @@ use Rattle.hys_type.proofs.Operators.{zero_is}
 use Rattle.hys_type.proofs.Passing.{Pass}
 
 -- ---- a name that isn't declared has no factor
-signed_zero : (op : UnaryOp) (a : Number) → a ≡ whole 0 → signed op a ≡ whole 0
+pub signed_zero : (op : UnaryOp) (a : Number) → a ≡ whole 0 → signed op a ≡ whole 0
 signed_zero unary.Not a h = refl
 signed_zero unary.Neg a h = ap neg h ∙ by_ring [] (minus (k 0)) (k 0) refl
 signed_zero unary.Plus a h = h
 
-combined_zero : (n : List ℕ) (op : BinaryOp) (f g : Form) → f.factor n ≡ whole 0 → g.factor n ≡ whole 0 → (combined op f g).factor n ≡ whole 0
+pub combined_zero : (n : List ℕ) (op : BinaryOp) (f g : Form) → f.factor n ≡ whole 0 → g.factor n ≡ whole 0 → (combined op f g).factor n ≡ whole 0
 combined_zero n binary.Add f g h i = ap₂ (λ a b. a +ₙ b) h i ∙ by_ring [] (k 0 ⊕ k 0) (k 0) refl
 combined_zero n binary.Sub f g h i = ap₂ (λ a b. a -ₙ b) h i ∙ by_ring [] (k 0 ⊖ k 0) (k 0) refl
 combined_zero n binary.Mul f g h i = ap₂ (λ a b. a *ₙ g.constant +ₙ f.constant *ₙ b) h i ∙ by_ring (f.constant ∷ g.constant ∷ []) (k 0 ⊗ v 1 ⊕ v 0 ⊗ k 0) (k 0) refl
@@ -93,13 +93,13 @@ pub is_constant_of : (ns : List Name) (f : Form) → IsConstant f → is_constan
 is_constant_of [] f h = refl
 is_constant_of (n ∷ ns) f h = ap₂ (λ (a b : Bool). a && b) (ap is_zero (h n.text) ∙ zero_test) (is_constant_of ns f h)
 
-not_zero : (a : Number) → IsTrue (not (is_zero a)) → a ≢ whole 0
+pub not_zero : (a : Number) → IsTrue (not (is_zero a)) → a ≢ whole 0
 not_zero a h e = let t : is_zero a ≡ true = ap is_zero e ∙ zero_test in never (sym (ap not t) ∙ h)
   where
     never : false ≡ true → ⊥
     never e = absurd (cc)
 
-is_not_zero : (a : Number) → a ≢ whole 0 → IsTrue (not (is_zero a))
+pub is_not_zero : (a : Number) → a ≢ whole 0 → IsTrue (not (is_zero a))
 is_not_zero a h = go (is_zero a) refl
   where
     go : (b : Bool) → is_zero a ≡ b → not b ≡ true

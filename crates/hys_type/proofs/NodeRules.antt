@@ -145,22 +145,22 @@ cast_real (Some m) p h = go m.kind (is_output m.section) h.1.0
     go kind.Real false h = absurd (cc)
 
 -- ---- sorts
-real_sort : (s : Sort) → is_real s ≡ true → s ≡ Real
+pub real_sort : (s : Sort) → is_real s ≡ true → s ≡ Real
 real_sort Real h = refl
 real_sort Bool' h = absurd (cc)
 real_sort Neither h = absurd (cc)
 
-bool_sort : (s : Sort) → is_bool s ≡ true → s ≡ Bool'
+pub bool_sort : (s : Sort) → is_bool s ≡ true → s ≡ Bool'
 bool_sort Bool' h = refl
 bool_sort Real h = absurd (cc)
 bool_sort Neither h = absurd (cc)
 
-both_real : (s t : Sort) → is_real s && is_real t ≡ true → (s ≡ Real) × (t ≡ Real)
+pub both_real : (s t : Sort) → is_real s && is_real t ≡ true → (s ≡ Real) × (t ≡ Real)
 both_real Real t h = (refl, real_sort t h)
 both_real Bool' t h = absurd (cc)
 both_real Neither t h = absurd (cc)
 
-both_bool : (s t : Sort) → is_bool s && is_bool t ≡ true → (s ≡ Bool') × (t ≡ Bool')
+pub both_bool : (s t : Sort) → is_bool s && is_bool t ≡ true → (s ≡ Bool') × (t ≡ Bool')
 both_bool Bool' t h = (refl, bool_sort t h)
 both_bool Real t h = absurd (cc)
 both_bool Neither t h = absurd (cc)
