@@ -268,3 +268,163 @@ module _ (ks : List Known) (ps ns : List Name) (known : AreKnown ks ps) (among :
   form_among (tree.Cast n p) r = same_looked ps ns among n typed.is_bool r
   form_among (tree.Unary op a p) r = ap (λ (f : Form). record { factor = λ n. signed op (f.factor n); constant = signed op f.constant }) (form_among a r.1)
   form_among (tree.Binary op a b p) r = ap₂ (combined op) (form_among a r.0) (form_among b r.1)
+
+  -- ---- from the checks
+  unary_part : (op : UnaryOp) (a : Tree) (p : Place) (t : Sort) → takes_unary op t ≡ true → IsConstantOf t ps a → IsConstantOf (sort_of_unary op) ps (tree.Unary op a p)
+  unary_part unary.Not a p Bool' h i = (refl, i)
+  unary_part unary.Not a p Real h i = absurd (cc)
+  unary_part unary.Not a p Neither h i = absurd (cc)
+  unary_part unary.Neg a p Real h i = (refl, i)
+  unary_part unary.Neg a p Bool' h i = absurd (cc)
+  unary_part unary.Neg a p Neither h i = absurd (cc)
+  unary_part unary.Plus a p Real h i = (refl, i)
+  unary_part unary.Plus a p Bool' h i = absurd (cc)
+  unary_part unary.Plus a p Neither h i = absurd (cc)
+
+  arithmetic_kept : (op : BinaryOp) (a b : Tree) (p : Place) → IsTrue (is_arithmetic op) → is_real (known_sort ks a) && is_real (known_sort ks b) ≡ true → ConstantKept ks ps ns a → ConstantKept ks ps ns b →
+      Pass (divisor_checks op (value (known_values ks) b) p) → Pass (in_range p (operation op (value (known_values ks) a) (value (known_values ks) b))) → IsReal ps (tree.Binary op a b p) × Fit (all_at p (folding ns op (form ns a) (form ns b)))
+  arithmetic_kept op a b p t h l r d o =
+      let e = both_real (known_sort ks a) (known_sort ks b) h in
+      let i : IsReal ps a = subst (λ s. IsConstantOf s ps a) e.0 l.part in
+      let j : IsReal ps b = subst (λ s. IsConstantOf s ps b) e.1 r.part in
+      let f = constant_form a i in
+      let g = constant_form b j in
+      ((i, j, divisor_folds op (form ps a) (form ps b) p t f.0 g.0 (subst (λ y. Pass (divisor_checks op y p)) g.1 d)),
+          subst₂ (λ (x y : Form). Fit (all_at p (folding ns op x y))) (sym (form_among a i)) (sym (form_among b j))
+          (folding_fit ns op (form ps a) (form ps b) p t f.0 g.0 (subst₂ (λ x y. Pass (in_range p (operation op x y))) f.1 g.1 o)))
+
+  formula_kept : (op : BinaryOp) (a b : Tree) (p : Place) → IsTrue (is_connective op) → is_bool (known_sort ks a) && is_bool (known_sort ks b) ≡ true → ConstantKept ks ps ns a → ConstantKept ks ps ns b → IsFormula ps (tree.Binary op a b p)
+  formula_kept op a b p t h l r =
+      let e = both_bool (known_sort ks a) (known_sort ks b) h in
+      (t, subst (λ s. IsConstantOf s ps a) e.0 l.part, subst (λ s. IsConstantOf s ps b) e.1 r.part)
+
+  numbers_of_both : (op : BinaryOp) (a b : Tree) (p : Place) → ConstantKept ks ps ns a → ConstantKept ks ps ns b → Fit (all_at p (folding ns op (form ns a) (form ns b))) → Fit (numbers_of ns (tree.Binary op a b p))
+  numbers_of_both op a b p l r h = all_join _ (numbers_of ns a) (numbers_of ns b ++ all_at p (folding ns op (form ns a) (form ns b))) l.numbers (all_join _ (numbers_of ns b) (all_at p (folding ns op (form ns a) (form ns b))) r.numbers h)
+
+  abbrev ranged : BinaryOp → Tree → Tree → Place → List Check
+  ranged op a b p = in_range p (operation op (value (known_values ks) a) (value (known_values ks) b))
+
+  binary_kept : (op : BinaryOp) (a b : Tree) (p : Place) → ConstantKept ks ps ns a → ConstantKept ks ps ns b → Pass (operator_checks op (known_sort ks a) (known_sort ks b) (value (known_values ks) a) (value (known_values ks) b) p) → ConstantKept ks ps ns (tree.Binary op a b p)
+  binary_kept binary.Add a b p l r c =
+      let u = arithmetic_kept binary.Add a b p refl c.0 l r (pass_front (divisor_checks binary.Add (value (known_values ks) b) p) (ranged binary.Add a b p) c.1) (pass_behind (divisor_checks binary.Add (value (known_values ks) b) p) (ranged binary.Add a b p) c.1) in
+      record { part = u.0; numbers = numbers_of_both binary.Add a b p l r u.1 }
+  binary_kept binary.Sub a b p l r c =
+      let u = arithmetic_kept binary.Sub a b p refl c.0 l r (pass_front (divisor_checks binary.Sub (value (known_values ks) b) p) (ranged binary.Sub a b p) c.1) (pass_behind (divisor_checks binary.Sub (value (known_values ks) b) p) (ranged binary.Sub a b p) c.1) in
+      record { part = u.0; numbers = numbers_of_both binary.Sub a b p l r u.1 }
+  binary_kept binary.Mul a b p l r c =
+      let u = arithmetic_kept binary.Mul a b p refl c.0 l r (pass_front (divisor_checks binary.Mul (value (known_values ks) b) p) (ranged binary.Mul a b p) c.1) (pass_behind (divisor_checks binary.Mul (value (known_values ks) b) p) (ranged binary.Mul a b p) c.1) in
+      record { part = u.0; numbers = numbers_of_both binary.Mul a b p l r u.1 }
+  binary_kept binary.Div a b p l r c =
+      let u = arithmetic_kept binary.Div a b p refl c.0 l r (pass_front (divisor_checks binary.Div (value (known_values ks) b) p) (ranged binary.Div a b p) c.1) (pass_behind (divisor_checks binary.Div (value (known_values ks) b) p) (ranged binary.Div a b p) c.1) in
+      record { part = u.0; numbers = numbers_of_both binary.Div a b p l r u.1 }
+  binary_kept binary.And a b p l r c = record { part = formula_kept binary.And a b p refl c.0 l r; numbers = numbers_of_both binary.And a b p l r tt }
+  binary_kept binary.Or a b p l r c = record { part = formula_kept binary.Or a b p refl c.0 l r; numbers = numbers_of_both binary.Or a b p l r tt }
+  binary_kept binary.Iff a b p l r c = record { part = formula_kept binary.Iff a b p refl c.0 l r; numbers = numbers_of_both binary.Iff a b p l r tt }
+  binary_kept binary.Then a b p l r c = record { part = formula_kept binary.Then a b p refl c.0 l r; numbers = numbers_of_both binary.Then a b p l r tt }
+  binary_kept binary.From a b p l r c = record { part = formula_kept binary.From a b p refl c.0 l r; numbers = numbers_of_both binary.From a b p l r tt }
+  binary_kept binary.Most a b p l r c = let h = c.0 in absurd (cc)
+  binary_kept binary.Least a b p l r c = let h = c.0 in absurd (cc)
+  binary_kept binary.Equal a b p l r c = let h = c.0 in absurd (cc)
+
+  pub constant_kept : (e : Tree) → Pass (constant_checks ks e) → ConstantKept ks ps ns e
+  constant_kept (tree.Number text p) c = record { part = tt; numbers = (c.0, tt) }
+  constant_kept (tree.Name n p) c = go (standing (find_known ks n) (look ps n) p (known n) c)
+    where
+      go : ((sort_of_known (find_known ks n) ≡ Real) × IsTrue (may_stand typed.is_real (look ps n))) ⊎ ((sort_of_known (find_known ks n) ≡ Bool') × IsTrue (may_stand typed.is_bool (look ps n))) → ConstantKept ks ps ns (tree.Name n p)
+      go (inl h) = record { part = subst (λ t. IsConstantOf t ps (tree.Name n p)) (sym h.0) h.1; numbers = tt }
+      go (inr h) = record { part = subst (λ t. IsConstantOf t ps (tree.Name n p)) (sym h.0) h.1; numbers = tt }
+  constant_kept (tree.Truth b p) c = record { part = tt; numbers = tt }
+  constant_kept (tree.Cast n p) c = record { part = cast_stands (find_known ks n) (look ps n) p (known n) c; numbers = tt }
+  constant_kept (tree.Unary op a p) c =
+      let l = constant_kept a (pass_front (constant_checks ks a) _ c) in
+      record { part = unary_part op a p (known_sort ks a) (pass_behind (constant_checks ks a) _ c).0 l.part; numbers = l.numbers }
+  constant_kept (tree.Binary op a b p) c =
+      let d = pass_behind (constant_checks ks a) _ c in
+      binary_kept op a b p (constant_kept a (pass_front (constant_checks ks a) _ c)) (constant_kept b (pass_front (constant_checks ks b) _ d)) (pass_behind (constant_checks ks b) _ d)
+
+  -- ---- to the checks
+  unary_fine : (op : UnaryOp) (a : Tree) (p : Place) (t : Sort) → IsConstantOf t ps (tree.Unary op a p) → ((u : Sort) → IsConstantOf u ps a → ConstantFine ks a u) → ConstantFine ks (tree.Unary op a p) t
+  unary_fine unary.Not a p Real i f = let h = i.0 in absurd (cc)
+  unary_fine unary.Not a p Bool' i f = let g = f Bool' i.1 in (pass_join (constant_checks ks a) _ g.0 (ap (takes_unary unary.Not) g.1, tt), refl)
+  unary_fine unary.Not a p Neither i f = absurd i
+  unary_fine unary.Neg a p Real i f = let g = f Real i.1 in (pass_join (constant_checks ks a) _ g.0 (ap (takes_unary unary.Neg) g.1, tt), refl)
+  unary_fine unary.Neg a p Bool' i f = let h = i.0 in absurd (cc)
+  unary_fine unary.Neg a p Neither i f = absurd i
+  unary_fine unary.Plus a p Real i f = let g = f Real i.1 in (pass_join (constant_checks ks a) _ g.0 (ap (takes_unary unary.Plus) g.1, tt), refl)
+  unary_fine unary.Plus a p Bool' i f = let h = i.0 in absurd (cc)
+  unary_fine unary.Plus a p Neither i f = absurd i
+
+  at_operator : (op : BinaryOp) (a b : Tree) (p : Place) (t : Sort) → takes_constants op t t ≡ true → ConstantFine ks a t → ConstantFine ks b t →
+      Pass (divisor_checks op (value (known_values ks) b) p) → Pass (in_range p (operation op (value (known_values ks) a) (value (known_values ks) b))) → Pass (constant_checks ks (tree.Binary op a b p))
+  at_operator op a b p t h f g d o =
+      pass_join (constant_checks ks a) _ f.0
+      (pass_join (constant_checks ks b) _ g.0 (ap₂ (takes_constants op) f.1 g.1 ∙ h, pass_join (divisor_checks op (value (known_values ks) b) p) (in_range p (operation op (value (known_values ks) a) (value (known_values ks) b))) d o))
+
+  arithmetic_fine : (op : BinaryOp) (a b : Tree) (p : Place) → IsTrue (is_arithmetic op) → takes_constants op Real Real ≡ true → IsReal ps (tree.Binary op a b p) → Fit (all_at p (folding ns op (form ns a) (form ns b))) →
+      ConstantFine ks a Real → ConstantFine ks b Real → Pass (constant_checks ks (tree.Binary op a b p))
+  arithmetic_fine op a b p t h r n l g =
+      let x = constant_form a r.0 in
+      let y = constant_form b r.1 in
+      at_operator op a b p Real h l g (subst (λ z. Pass (divisor_checks op z p)) (sym y.1) (folds_divisor op (form ps a) (form ps b) p r.2))
+      (subst₂ (λ z u. Pass (in_range p (operation op z u))) (sym x.1) (sym y.1)
+      (fit_operation ns op (form ps a) (form ps b) p t x.0 (subst₂ (λ (z u : Form). Fit (all_at p (folding ns op z u))) (form_among a r.0) (form_among b r.1) n)))
+
+  abbrev IsFine : Tree → Type 0
+  IsFine e = (t : Sort) → IsConstantOf t ps e → Fit (numbers_of ns e) → ConstantFine ks e t
+
+  binary_fine : (op : BinaryOp) (a b : Tree) (p : Place) (t : Sort) → IsConstantOf t ps (tree.Binary op a b p) → Fit (numbers_of ns a) → Fit (numbers_of ns b) → Fit (all_at p (folding ns op (form ns a) (form ns b))) → IsFine a → IsFine b → ConstantFine ks (tree.Binary op a b p) t
+  binary_fine binary.Add a b p Real i m n q f g = (arithmetic_fine binary.Add a b p refl refl i q (f Real i.0 m) (g Real i.1 n), refl)
+  binary_fine binary.Add a b p Bool' i m n q f g = let h = i.0 in absurd (cc)
+  binary_fine binary.Add a b p Neither i m n q f g = absurd i
+  binary_fine binary.Sub a b p Real i m n q f g = (arithmetic_fine binary.Sub a b p refl refl i q (f Real i.0 m) (g Real i.1 n), refl)
+  binary_fine binary.Sub a b p Bool' i m n q f g = let h = i.0 in absurd (cc)
+  binary_fine binary.Sub a b p Neither i m n q f g = absurd i
+  binary_fine binary.Mul a b p Real i m n q f g = (arithmetic_fine binary.Mul a b p refl refl i q (f Real i.0 m) (g Real i.1 n), refl)
+  binary_fine binary.Mul a b p Bool' i m n q f g = let h = i.0 in absurd (cc)
+  binary_fine binary.Mul a b p Neither i m n q f g = absurd i
+  binary_fine binary.Div a b p Real i m n q f g = (arithmetic_fine binary.Div a b p refl refl i q (f Real i.0 m) (g Real i.1 n), refl)
+  binary_fine binary.Div a b p Bool' i m n q f g = let h = i.0 in absurd (cc)
+  binary_fine binary.Div a b p Neither i m n q f g = absurd i
+  binary_fine binary.And a b p Real i m n q f g = absurd i.2
+  binary_fine binary.And a b p Bool' i m n q f g = (at_operator binary.And a b p Bool' refl (f Bool' i.1 m) (g Bool' i.2 n) tt tt, refl)
+  binary_fine binary.And a b p Neither i m n q f g = absurd i
+  binary_fine binary.Or a b p Real i m n q f g = absurd i.2
+  binary_fine binary.Or a b p Bool' i m n q f g = (at_operator binary.Or a b p Bool' refl (f Bool' i.1 m) (g Bool' i.2 n) tt tt, refl)
+  binary_fine binary.Or a b p Neither i m n q f g = absurd i
+  binary_fine binary.Iff a b p Real i m n q f g = absurd i.2
+  binary_fine binary.Iff a b p Bool' i m n q f g = (at_operator binary.Iff a b p Bool' refl (f Bool' i.1 m) (g Bool' i.2 n) tt tt, refl)
+  binary_fine binary.Iff a b p Neither i m n q f g = absurd i
+  binary_fine binary.Then a b p Real i m n q f g = absurd i.2
+  binary_fine binary.Then a b p Bool' i m n q f g = (at_operator binary.Then a b p Bool' refl (f Bool' i.1 m) (g Bool' i.2 n) tt tt, refl)
+  binary_fine binary.Then a b p Neither i m n q f g = absurd i
+  binary_fine binary.From a b p Real i m n q f g = absurd i.2
+  binary_fine binary.From a b p Bool' i m n q f g = (at_operator binary.From a b p Bool' refl (f Bool' i.1 m) (g Bool' i.2 n) tt tt, refl)
+  binary_fine binary.From a b p Neither i m n q f g = absurd i
+  binary_fine binary.Most a b p Real i m n q f g = absurd i.2
+  binary_fine binary.Most a b p Bool' i m n q f g = let h = i.0 in absurd (cc)
+  binary_fine binary.Most a b p Neither i m n q f g = absurd i
+  binary_fine binary.Least a b p Real i m n q f g = absurd i.2
+  binary_fine binary.Least a b p Bool' i m n q f g = let h = i.0 in absurd (cc)
+  binary_fine binary.Least a b p Neither i m n q f g = absurd i
+  binary_fine binary.Equal a b p Real i m n q f g = absurd i.2
+  binary_fine binary.Equal a b p Bool' i m n q f g = let h = i.0 in absurd (cc)
+  binary_fine binary.Equal a b p Neither i m n q f g = absurd i
+
+  pub constant_fine : (e : Tree) → IsFine e
+  constant_fine (tree.Number text p) Real i n = ((n.0, tt), refl)
+  constant_fine (tree.Number text p) Bool' i n = absurd i
+  constant_fine (tree.Number text p) Neither i n = absurd i
+  constant_fine (tree.Name m p) Real i n = real_stands (find_known ks m) (look ps m) p (known m) i
+  constant_fine (tree.Name m p) Bool' i n = formula_stands (find_known ks m) (look ps m) p (known m) i
+  constant_fine (tree.Name m p) Neither i n = absurd i
+  constant_fine (tree.Truth b p) Real i n = absurd i
+  constant_fine (tree.Truth b p) Bool' i n = (tt, refl)
+  constant_fine (tree.Truth b p) Neither i n = absurd i
+  constant_fine (tree.Cast m p) Real i n = (stands_cast (find_known ks m) (look ps m) p (known m) i, refl)
+  constant_fine (tree.Cast m p) Bool' i n = absurd i
+  constant_fine (tree.Cast m p) Neither i n = absurd i
+  constant_fine (tree.Unary op a p) t i n = unary_fine op a p t i (λ u j. constant_fine a u j n)
+  constant_fine (tree.Binary op a b p) t i n =
+      let os = all_at p (folding ns op (form ns a) (form ns b)) in
+      let q = all_behind _ (numbers_of ns a) (numbers_of ns b ++ os) n in
+      binary_fine op a b p t i (all_front _ (numbers_of ns a) (numbers_of ns b ++ os) n) (all_front _ (numbers_of ns b) os q) (all_behind _ (numbers_of ns b) os q) (constant_fine a) (constant_fine b)
