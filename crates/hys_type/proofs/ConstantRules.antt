@@ -30,25 +30,12 @@ use Rattle.hys_type.specs.Faults.{Check, check, in_range}
 use Rattle.hys_type.specs.Constants.{find_known, known_value, known_values, number_or_zero, has_number, is_bool_kind, sort_of_known, known_sort, may_be_cast, takes_constants, divisor_checks, operation, operator_checks, name_checks, constant_checks}
 use Rattle.hys_type.specs.Constants as constants
 use Rattle.hys_type.specs.declared.constant.Known.{Known}
+use Rattle.hys_type.specs.Written.{KnownAs, AreKnown, AreAmong}
 use Rattle.hys_type.proofs.Passing.{all_join, all_front, all_behind, Pass, pass_join, pass_front, pass_behind, Fit, range_fit, fit_range}
 use Rattle.hys_type.proofs.Linear.{signed_zero, combined_zero, is_arithmetic, is_constant_of, not_zero, is_not_zero}
 use Rattle.hys_type.proofs.NodeRules.{both_real, both_bool}
 
--- ---- what is known of a name
--- a parameter is known with its value, and any other name at most without one
-abbrev pub KnownAs : Option Known → Option Name → Type 0
-KnownAs (Some x) (Some m) = (x.kind ≡ m.kind) × (has_number x.value ≡ true) × (number_or_zero x.value ≡ m.value) × (is_parameter m.section ≡ true)
-KnownAs (Some x) None = has_number x.value ≡ false
-KnownAs None (Some m) = ⊥
-KnownAs None None = Unit {0}
-
-abbrev pub AreKnown : List Known → List Name → Type 0
-AreKnown ks ps = (n : List ℕ) → KnownAs (find_known ks n) (look ps n)
-
--- what is found among the first is the same among the others
-abbrev pub AreAmong : List Name → List Name → Type 0
-AreAmong ps ns = (n : List ℕ) (m : Name) → look ps n ≡ Some m → look ns n ≡ Some m
-
+-- ---- kinds of constants
 abbrev pub IsConstantOf : Sort → List Name → Tree → Type 0
 IsConstantOf Real ps e = IsReal ps e
 IsConstantOf Bool' ps e = IsFormula ps e

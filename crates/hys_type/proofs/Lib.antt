@@ -41,3 +41,4 @@ pub mod Passing
 pub mod Linear
 pub mod NodeRules
 pub mod ConstantRules
+pub mod PlaceRules

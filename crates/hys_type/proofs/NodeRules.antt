@@ -27,21 +27,9 @@ use Rattle.hys_type.specs.Constants.{is_bool_kind}
 use Rattle.hys_type.specs.Faults.{Check, check, in_range}
 use Rattle.hys_type.specs.Nodes.{name_checks, may_be_cast, sort_of_name, sort, takes_binary, linear_checks, operator_checks, node_checks}
 use Rattle.hys_type.specs.Nodes as nodes
-use Rattle.hys_type.specs.Written.{IsNoGuard, NamesNoGuard}
+use Rattle.hys_type.specs.Written.{IsNoGuard, NamesNoGuard, SameNames, AreNamed, Compare}
 use Rattle.hys_type.proofs.Passing.{all_join, all_front, all_behind, Pass, pass_join, pass_front, pass_behind, Fit, range_fit, fit_range}
 use Rattle.hys_type.proofs.Linear.{Outside, outside, is_arithmetic, linear_folds, folds_linear}
-
--- ---- names behind the declared ones
--- a name that isn't that of an unnamed guard is the same among both names
-abbrev pub SameNames : List Name → List Name → Type 0
-SameNames ns ms = (n : List ℕ) → IsNoGuard n → look ms n ≡ look ns n
-
--- each of the guards has the name of a Boolean auxiliary
-abbrev pub AreNamed : List Name → List Guard → Type 0
-AreNamed ms gs = AllByRecursion (λ (g : Guard). IsTrue (suits section.Ad (look ms (guard_name g.number)))) gs
-
-abbrev pub Compare : List Name → List Guard → Type 0
-Compare ms gs = AllByRecursion (λ (g : Guard). IsComparison is_inequality ms g.comparison) gs
 
 -- ---- kinds of expressions
 abbrev pub is_equality : BinaryOp → Bool
@@ -236,17 +224,17 @@ module _ (ns ms : List Name) (same : SameNames ns ms) (k : ℕ) (a b : Tree) (p 
       let e = both_bool (sort ns a) (sort ns b) h in
       (y, subst (λ t. IsSorted t ms (named k a).part) e.0 i, subst (λ t. IsSorted t ms (named later b).part) e.1 j)
 
-  compared_part : (test : BinaryOp → Bool) (op : BinaryOp) → IsTrue (test op) → IsSorted (sort ns a) ms (named k a).part → IsSorted (sort ns b) ms (named later b).part → is_real (sort ns a) && is_real (sort ns b) ≡ true →
+  pub compared_part : (test : BinaryOp → Bool) (op : BinaryOp) → IsTrue (test op) → IsSorted (sort ns a) ms (named k a).part → IsSorted (sort ns b) ms (named later b).part → is_real (sort ns a) && is_real (sort ns b) ≡ true →
       IsComparison test ms (tree.Binary op (named k a).part (named later b).part p)
   compared_part test op y i j h =
       let e = both_real (sort ns a) (sort ns b) h in
       (y, subst (λ t. IsSorted t ms (named k a).part) e.0 i, subst (λ t. IsSorted t ms (named later b).part) e.1 j)
 
   -- what the checks at the operator say, and the numbers
-  operator_of : (op : BinaryOp) → Pass (node_checks ns (tree.Binary op a b p)) → Pass (operator_checks ns op (sort ns a) (sort ns b) (form ns a) (form ns b) p)
+  pub operator_of : (op : BinaryOp) → Pass (node_checks ns (tree.Binary op a b p)) → Pass (operator_checks ns op (sort ns a) (sort ns b) (form ns a) (form ns b) p)
   operator_of op c = pass_behind (node_checks ns b) _ (pass_behind (node_checks ns a) _ c)
 
-  numbers_join : (op : BinaryOp) → Kept ns ms k a → Kept ns ms later b → Pass (operator_checks ns op (sort ns a) (sort ns b) (form ns a) (form ns b) p) → Fit (numbers_of ns (tree.Binary op a b p))
+  pub numbers_join : (op : BinaryOp) → Kept ns ms k a → Kept ns ms later b → Pass (operator_checks ns op (sort ns a) (sort ns b) (form ns a) (form ns b) p) → Fit (numbers_of ns (tree.Binary op a b p))
   numbers_join op l r c =
       let os : List Lost = folding ns op (form ns a) (form ns b) in
       all_join _ (numbers_of ns a) (numbers_of ns b ++ all_at p os) l.numbers (all_join _ (numbers_of ns b) (all_at p os) r.numbers (range_fit p os (pass_behind (linear_checks ns op (form ns a) (form ns b) p) (in_range p os) c.1)))
@@ -377,7 +365,7 @@ module _ (ns ms : List Name) (same : SameNames ns ms) (k : ℕ) (a b : Tree) (p 
   abbrev Right : Type 0
   Right = AreNamed ms after → Compare ms after → (t : Sort) → IsSorted t ms (named next b).part → Fit (numbers_of ns b) → Fine ns b t
 
-  operands : (op : BinaryOp) (t : Sort) → takes_binary op t t ≡ true → Pass (linear_checks ns op (form ns a) (form ns b) p) → AreNamed ms (before ++ after) → Compare ms (before ++ after) →
+  pub operands : (op : BinaryOp) (t : Sort) → takes_binary op t t ≡ true → Pass (linear_checks ns op (form ns a) (form ns b) p) → AreNamed ms (before ++ after) → Compare ms (before ++ after) →
       IsSorted t ms (named k a).part → IsSorted t ms (named next b).part → Fit (numbers_of ns (tree.Binary op a b p)) → Left → Right → Pass (node_checks ns (tree.Binary op a b p))
   operands op t h l q c i j n f g =
       let os : List Lost = folding ns op (form ns a) (form ns b) in

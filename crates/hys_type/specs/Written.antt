@@ -1,9 +1,16 @@
--- What holds of each source that is read from a text: a name in it is never that of an unnamed guard.
-use Rattle.std.specs.Prelude.{◌≡◌, ℕ, List}
+-- How the names of a source, those behind its unnamed guards, and what is known of parameters go together.
+use Rattle.std.specs.Prelude.{◌≡◌, ℕ, List, Option, Some, None, true, false, IsTrue}
+use Rattle.std.specs.List.{AllByRecursion}
+use Rattle.hys_ast.specs.declared.source.Section.TheVariants as section
 use Rattle.hys_ast.specs.Tree.{Tree}
 use Rattle.hys_ast.specs.Tree as tree
-use Rattle.hys_meaning.specs.Unfolded.{guard_name}
+use Rattle.hys_meaning.specs.Names.{Name, look, is_parameter}
+use Rattle.hys_meaning.specs.Unfolded.{Guard, guard_name, is_inequality}
+use Rattle.hys_meaning.specs.Typed.{suits, IsComparison}
+use Rattle.hys_type.specs.Constants.{find_known, has_number, number_or_zero}
+use Rattle.hys_type.specs.declared.constant.Known.{Known}
 
+-- ---- texts
 -- the text isn't the name of an unnamed guard
 abbrev pub IsNoGuard : List ℕ → Type 0
 IsNoGuard n = (k : ℕ) → ¬ (n ≡ guard_name k)
@@ -16,3 +23,31 @@ NamesNoGuard (tree.Truth b p) = Unit {0}
 NamesNoGuard (tree.Cast n p) = IsNoGuard n
 NamesNoGuard (tree.Unary op a p) = NamesNoGuard a
 NamesNoGuard (tree.Binary op a b p) = NamesNoGuard a × NamesNoGuard b
+
+-- ---- names behind the declared ones
+-- a name that isn't that of an unnamed guard is the same among both names
+abbrev pub SameNames : List Name → List Name → Type 0
+SameNames ns ms = (n : List ℕ) → IsNoGuard n → look ms n ≡ look ns n
+
+-- each of the guards has the name of a Boolean auxiliary
+abbrev pub AreNamed : List Name → List Guard → Type 0
+AreNamed ms gs = AllByRecursion (λ g. IsTrue (suits section.Ad (look ms (guard_name g.number)))) gs
+
+-- each of the guards compares two real expressions
+abbrev pub Compare : List Name → List Guard → Type 0
+Compare ms gs = AllByRecursion (λ g. IsComparison is_inequality ms g.comparison) gs
+
+-- ---- what is known of a name
+-- a parameter is known with its value, and any other name at most without one
+abbrev pub KnownAs : Option Known → Option Name → Type 0
+KnownAs (Some x) (Some m) = (x.kind ≡ m.kind) × (has_number x.value ≡ true) × (number_or_zero x.value ≡ m.value) × (is_parameter m.section ≡ true)
+KnownAs (Some x) None = has_number x.value ≡ false
+KnownAs None (Some m) = ⊥
+KnownAs None None = Unit {0}
+
+abbrev pub AreKnown : List Known → List Name → Type 0
+AreKnown ks ps = (n : List ℕ) → KnownAs (find_known ks n) (look ps n)
+
+-- what is found among the first is the same among the others
+abbrev pub AreAmong : List Name → List Name → Type 0
+AreAmong ps ns = (n : List ℕ) (m : Name) → look ps n ≡ Some m → look ns n ≡ Some m

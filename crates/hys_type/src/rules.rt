@@ -1,15 +1,25 @@
 //! What the checks of a source and the rules of the language have to do with each other, as calls
 //! that do nothing.
 
-ghost use Rattle.std.specs.Prelude.{◌≡◌, List, [], ◌∷◌, Some, None, true, codes};
+ghost use Rattle.std.specs.Prelude.{◌≡◌, ◌↔◌, ◌⊎◌, ℕ, List, [], ◌∷◌, Some, None, true, codes};
 ghost use Rattle.hys_number.specs.Ops.{whole, neg};
 ghost use Rattle.hys_lin.specs.Operations.{minus};
+ghost use Rattle.hys_ast.specs.Tree.{Tree};
 ghost use Rattle.hys_ast.specs.Tree as tree;
+ghost use Rattle.hys_ast.specs.declared.source.Kind.{Kind};
 ghost use Rattle.hys_ast.specs.declared.source.Kind.TheVariants as kind;
 ghost use Rattle.hys_ast.specs.declared.tree.BinaryOp.TheVariants as binary;
 ghost use Rattle.hys_ast.specs.declared.tree.UnaryOp.TheVariants as unary;
 ghost use Rattle.hys_meaning.specs.Values.{literal};
-ghost use Rattle.hys_type.specs.Checks.{fault_of};
+ghost use Rattle.hys_meaning.specs.Names.{Name};
+ghost use Rattle.hys_meaning.specs.Folding.{first_unfit, numbers_of};
+ghost use Rattle.hys_meaning.specs.Unfolded.{named, named_below, is_inequality};
+ghost use Rattle.hys_meaning.specs.Typed.{IsOfKind, IsFormula, IsComparison, is_comparison};
+ghost use Rattle.hys_type.specs.Faults.{first_fault};
+ghost use Rattle.hys_type.specs.Declarations.{constant_of_kind};
+ghost use Rattle.hys_type.specs.Checks.{fault_of, of_kind, expression, has_top, demanded};
+ghost use Rattle.hys_type.specs.Written.{NamesNoGuard, SameNames, AreNamed, Compare, AreKnown, AreAmong};
+ghost use Rattle.hys_type.specs.declared.constant.Known.{Known};
 ghost use Rattle.hys_type.specs.Examples.{spot, digits, name, zero_at, ten_at, state, next, source, stepping};
 ghost use Rattle.hys_type.specs.TwoFaults.{x_at, two, largest_at, parameter, linear, guarding};
 ghost use Rattle.hys_type.specs.declared.fault.TypeFault.TheVariants as fault;
@@ -32,4 +42,19 @@ pub fn fault_orders()
     ensures guard_number_first { fault_of (stepping (two binary.Add 6 (two binary.Most 7 (two binary.Mul 8 (largest_at 9) (x_at 10)) (tree.Unary unary.Neg (x_at 12) (spot 11))) (digits (codes "1") 13))) ≡ Some (fault.Range (spot 7) (minus (literal (codes "9223372036854775807")) (neg (whole 1)))) }
     ensures divisor_of_no_term { fault_of (stepping (two binary.Div 6 (x_at 7) (two binary.Sub 8 (x_at 9) (x_at 10)))) ≡ Some (fault.ZeroDivisor (spot 6)) }
     ensures left_operand_first { fault_of (stepping (two binary.Add 6 (two binary.Div 7 (x_at 8) (zero_at 9)) (name (codes "z") 10))) ≡ Some (fault.ZeroDivisor (spot 7)) }
+{}
+
+/// The checks of an expression pass exactly where the expression is what its place wants, once each
+/// of its guards has a name, each of its guards compares two real expressions, and its numbers fit.
+pub fn expression_rules()
+    ensures constants { (ks : List Known) (ps ns : List Name) → AreKnown ks ps → AreAmong ps ns → (k : Kind) (e : Tree) →
+        (first_fault (constant_of_kind k ks e) ≡ None) ↔ (IsOfKind k ps e × (first_unfit (numbers_of ns e) ≡ None)) }
+    ensures kinds { (ns ms : List Name) → SameNames ns ms → (n : ℕ) (e : Tree) → NamesNoGuard e → AreNamed ms (named n e).guards → (k : Kind) →
+        (first_fault (of_kind k ns e) ≡ None) ↔ (Compare ms (named n e).guards × IsOfKind k ms (named n e).part × (first_unfit (numbers_of ns e) ≡ None)) }
+    ensures guards { (ns ms : List Name) → SameNames ns ms → (n : ℕ) (e : Tree) → NamesNoGuard e → AreNamed ms (named_below n e).guards →
+        (first_fault (expression ns (has_top is_inequality) e) ≡ None) ↔
+        (Compare ms (named_below n e).guards × IsComparison is_inequality ms (named_below n e).part × (first_unfit (numbers_of ns e) ≡ None)) }
+    ensures demands { (ns ms : List Name) → SameNames ns ms → (n : ℕ) (e : Tree) → NamesNoGuard e → AreNamed ms (named_below n e).guards →
+        (first_fault (expression ns (demanded ns) e) ≡ None) ↔
+        (Compare ms (named_below n e).guards × (IsFormula ms (named_below n e).part ⊎ IsComparison is_comparison ms (named_below n e).part) × (first_unfit (numbers_of ns e) ≡ None)) }
 {}
