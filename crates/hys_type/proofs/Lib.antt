@@ -42,3 +42,4 @@ pub mod Linear
 pub mod NodeRules
 pub mod ConstantRules
 pub mod PlaceRules
+pub mod DeclaredRules
