@@ -43,3 +43,4 @@ pub mod NodeRules
 pub mod ConstantRules
 pub mod PlaceRules
 pub mod DeclaredRules
+pub mod ParameterRules
