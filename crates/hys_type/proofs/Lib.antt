@@ -44,3 +44,5 @@ pub mod ConstantRules
 pub mod PlaceRules
 pub mod DeclaredRules
 pub mod ParameterRules
+pub mod ValueRules
+pub mod DeclarationRules

@@ -98,7 +98,7 @@ known_value_last ks qs x m t e k h n = subst₂ KnownAs (sym (find_last ks x n))
     go false i (Some y) (Some z) f g = g
     go false i (Some y) None f g = subst (λ c. KnownAs (Some y) (cond c (Some m) None)) (sym (ap (λ z. bytes_eq z n) (sym t) ∙ i)) g
 
-abbrev front_names : Assignment → Decl → List Name → List Name
+abbrev pub front_names : Assignment → Decl → List Name → List Name
 front_names w d qs = qs ++ only_parameters (name_of w d ∷ [])
 
 pub prefix_more : (ks : List Known) (qs : List Name) (w : Assignment) (d : Decl) (rest : List Decl) → (IsTrue (is_parameter d.section) → IsTrue (has_value d.value)) → Prefix ks qs w (d ∷ rest) → Prefix (with_parameter ks d) (front_names w d qs) w rest

@@ -18,3 +18,4 @@ pub mod Made
 pub mod Built
 pub mod TwoFaults
 pub mod Written
+pub mod DeclarationKeeping

@@ -2,11 +2,11 @@
 use Rattle.std.specs.Prelude.{◌≡◌, ℕ, List, Option, Some, None, true, false, IsTrue}
 use Rattle.std.specs.List.{AllByRecursion}
 use Rattle.hys_ast.specs.declared.source.Section.TheVariants as section
-use Rattle.hys_ast.specs.Tree.{Tree}
+use Rattle.hys_ast.specs.Tree.{Tree, Decl}
 use Rattle.hys_ast.specs.Tree as tree
 use Rattle.hys_meaning.specs.Names.{Name, look, is_parameter}
 use Rattle.hys_meaning.specs.Unfolded.{Guard, guard_name, is_inequality}
-use Rattle.hys_meaning.specs.Typed.{suits, IsComparison}
+use Rattle.hys_meaning.specs.Typed.{suits, IsComparison, has_box}
 use Rattle.hys_type.specs.Constants.{find_known, has_number, number_or_zero}
 use Rattle.hys_type.specs.declared.constant.Known.{Known}
 
@@ -51,3 +51,8 @@ AreKnown ks ps = (n : List ℕ) → KnownAs (find_known ks n) (look ps n)
 -- what is found among the first is the same among the others
 abbrev pub AreAmong : List Name → List Name → Type 0
 AreAmong ps ns = (n : List ℕ) (m : Name) → look ps n ≡ Some m → look ns n ≡ Some m
+
+-- ---- what is read from a text
+-- a value stands at parameters alone, and bounds at real states and inputs
+abbrev pub IsReadDecl : Decl → Type 0
+IsReadDecl d = IsNoGuard d.name × (is_parameter d.section ≡ false → d.value ≡ None) × (has_box d ≡ false → (d.low ≡ None) × (d.high ≡ None))

@@ -1,10 +1,11 @@
 //! What the checks of a source and the rules of the language have to do with each other, as calls
 //! that do nothing.
 
-ghost use Rattle.std.specs.Prelude.{◌≡◌, ◌↔◌, ◌⊎◌, ℕ, List, [], ◌∷◌, Some, None, true, codes};
+ghost use Rattle.std.specs.Prelude.{◌≡◌, ◌↔◌, ◌⊎◌, ℕ, List, [], ◌∷◌, ◌++◌, flat_map, Some, None, true, codes};
 ghost use Rattle.hys_number.specs.Ops.{whole, neg};
 ghost use Rattle.hys_lin.specs.Operations.{minus};
-ghost use Rattle.hys_ast.specs.Tree.{Tree};
+ghost use Rattle.std.specs.List.{AllByRecursion};
+ghost use Rattle.hys_ast.specs.Tree.{Tree, Decl};
 ghost use Rattle.hys_ast.specs.Tree as tree;
 ghost use Rattle.hys_ast.specs.declared.source.Kind.{Kind};
 ghost use Rattle.hys_ast.specs.declared.source.Kind.TheVariants as kind;
@@ -12,13 +13,14 @@ ghost use Rattle.hys_ast.specs.declared.tree.BinaryOp.TheVariants as binary;
 ghost use Rattle.hys_ast.specs.declared.tree.UnaryOp.TheVariants as unary;
 ghost use Rattle.hys_meaning.specs.Values.{literal};
 ghost use Rattle.hys_meaning.specs.Names.{Name};
-ghost use Rattle.hys_meaning.specs.Folding.{first_unfit, numbers_of};
+ghost use Rattle.hys_meaning.specs.Folding.{first_unfit, numbers_of, value_of, bounds_of};
 ghost use Rattle.hys_meaning.specs.Unfolded.{named, named_below, is_inequality};
 ghost use Rattle.hys_meaning.specs.Typed.{IsOfKind, IsFormula, IsComparison, is_comparison};
 ghost use Rattle.hys_type.specs.Faults.{first_fault};
 ghost use Rattle.hys_type.specs.Declarations.{constant_of_kind};
 ghost use Rattle.hys_type.specs.Checks.{fault_of, of_kind, expression, has_top, demanded};
-ghost use Rattle.hys_type.specs.Written.{NamesNoGuard, SameNames, AreNamed, Compare, AreKnown, AreAmong};
+ghost use Rattle.hys_type.specs.Written.{NamesNoGuard, SameNames, AreNamed, Compare, AreKnown, AreAmong, IsReadDecl};
+ghost use Rattle.hys_type.specs.DeclarationKeeping.{declared_names, declaration_checks, KeepDeclarations};
 ghost use Rattle.hys_type.specs.declared.constant.Known.{Known};
 ghost use Rattle.hys_type.specs.Examples.{spot, digits, name, zero_at, ten_at, state, next, source, stepping};
 ghost use Rattle.hys_type.specs.TwoFaults.{x_at, two, largest_at, parameter, linear, guarding};
@@ -57,4 +59,12 @@ pub fn expression_rules()
     ensures demands { (ns ms : List Name) → SameNames ns ms → (n : ℕ) (e : Tree) → NamesNoGuard e → AreNamed ms (named_below n e).guards →
         (first_fault (expression ns (demanded ns) e) ≡ None) ↔
         (Compare ms (named_below n e).guards × (IsFormula ms (named_below n e).part ⊎ IsComparison is_comparison ms (named_below n e).part) × (first_unfit (numbers_of ns e) ≡ None)) }
+{}
+
+/// The checks of declarations pass exactly where the names differ and are at most 200, each
+/// parameter has a value of its kind, each real state and input has a box that isn't empty, and the
+/// numbers of values and boxes fit.
+pub fn declaration_rules()
+    ensures { (ds : List Decl) → AllByRecursion IsReadDecl ds →
+        (first_fault (declaration_checks ds) ≡ None) ↔ (KeepDeclarations ds × (first_unfit (flat_map (numbers_of (declared_names ds)) (flat_map value_of ds ++ flat_map bounds_of ds)) ≡ None)) }
 {}
