@@ -46,3 +46,4 @@ pub mod DeclaredRules
 pub mod ParameterRules
 pub mod ValueRules
 pub mod DeclarationRules
+pub mod RightRules

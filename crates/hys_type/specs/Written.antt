@@ -2,11 +2,14 @@
 use Rattle.std.specs.Prelude.{◌≡◌, ℕ, List, Option, Some, None, true, false, IsTrue}
 use Rattle.std.specs.List.{AllByRecursion}
 use Rattle.hys_ast.specs.declared.source.Section.TheVariants as section
-use Rattle.hys_ast.specs.Tree.{Tree, Decl}
+use Rattle.hys_ast.specs.Tree.{Tree, Decl, Item}
+use Rattle.hys_ast.specs.Nodes.{shape_expressions}
+use Rattle.hys_meaning.specs.Bodies.{Body}
+use Rattle.hys_meaning.specs.Bodies as body
 use Rattle.hys_ast.specs.Tree as tree
 use Rattle.hys_meaning.specs.Names.{Name, look, is_parameter}
 use Rattle.hys_meaning.specs.Unfolded.{Guard, guard_name, is_inequality}
-use Rattle.hys_meaning.specs.Typed.{suits, IsComparison, has_box}
+use Rattle.hys_meaning.specs.Typed.{suits, IsComparison, has_box, is_demand, only_parameters}
 use Rattle.hys_type.specs.Constants.{find_known, has_number, number_or_zero}
 use Rattle.hys_type.specs.declared.constant.Known.{Known}
 
@@ -56,3 +59,30 @@ AreAmong ps ns = (n : List ℕ) (m : Name) → look ps n ≡ Some m → look ns 
 -- a value stands at parameters alone, and bounds at real states and inputs
 abbrev pub IsReadDecl : Decl → Type 0
 IsReadDecl d = IsNoGuard d.name × (is_parameter d.section ≡ false → d.value ≡ None) × (has_box d ≡ false → (d.low ≡ None) × (d.high ≡ None))
+
+-- the right side is one that the section has
+abbrev pub HasRight : Body → Type 0
+HasRight (body.Guard e t) = Unit {0}
+HasRight (body.Choice a b c) = Unit {0}
+HasRight (body.Logic e) = Unit {0}
+HasRight (body.Linear e) = Unit {0}
+HasRight (body.NextBool e) = Unit {0}
+HasRight (body.NextReal e) = Unit {0}
+HasRight (body.Output e) = Unit {0}
+HasRight (body.Must e) = Unit {0}
+HasRight body.Nothing = ⊥
+
+-- an item of its section with a left name, but for a demand, and no name in it is that of an unnamed guard
+pub record IsReadItem (i : Item) : Type 0 where
+  pub right : HasRight (body.body i)
+  pub demands : i.name ≡ None → IsTrue (is_demand i.section)
+  pub left : (n : List ℕ) → i.name ≡ Some n → IsNoGuard n
+  pub names : AllByRecursion NamesNoGuard (shape_expressions i.shape)
+
+-- the names of a source, those with its unnamed guards behind them, and what is known of its parameters
+pub record GoTogether (ns ms : List Name) (ks : List Known) : Type 0 where
+  pub same : SameNames ns ms
+  pub known : AreKnown ks (only_parameters ns)
+  pub among : AreAmong (only_parameters ns) ns
+  pub still : AreAmong (only_parameters ns) ms
+  pub parameters : only_parameters ms ≡ only_parameters ns
