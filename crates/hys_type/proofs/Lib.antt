@@ -47,3 +47,4 @@ pub mod ParameterRules
 pub mod ValueRules
 pub mod DeclarationRules
 pub mod RightRules
+pub mod ItemRules

@@ -1,6 +1,6 @@
 -- How the names of a source, those behind its unnamed guards, and what is known of parameters go together.
-use Rattle.std.specs.Prelude.{◌≡◌, ℕ, List, Option, Some, None, true, false, IsTrue}
-use Rattle.std.specs.List.{AllByRecursion}
+use Rattle.std.specs.Prelude.{◌≡◌, ℕ, List, [], ◌∷◌, ◌++◌, Option, Some, None, true, false, IsTrue}
+use Rattle.std.specs.List.{AllByRecursion, list_any}
 use Rattle.hys_ast.specs.declared.source.Section.TheVariants as section
 use Rattle.hys_ast.specs.Tree.{Tree, Decl, Item}
 use Rattle.hys_ast.specs.Nodes.{shape_expressions}
@@ -9,7 +9,7 @@ use Rattle.hys_meaning.specs.Bodies as body
 use Rattle.hys_ast.specs.Tree as tree
 use Rattle.hys_meaning.specs.Names.{Name, look, is_parameter}
 use Rattle.hys_meaning.specs.Unfolded.{Guard, guard_name, is_inequality}
-use Rattle.hys_meaning.specs.Typed.{suits, IsComparison, has_box, is_demand, only_parameters}
+use Rattle.hys_meaning.specs.Typed.{suits, IsComparison, has_box, is_demand, only_parameters, defines}
 use Rattle.hys_type.specs.Constants.{find_known, has_number, number_or_zero}
 use Rattle.hys_type.specs.declared.constant.Known.{Known}
 
@@ -86,3 +86,13 @@ pub record GoTogether (ns ms : List Name) (ks : List Known) : Type 0 where
   pub among : AreAmong (only_parameters ns) ns
   pub still : AreAmong (only_parameters ns) ms
   pub parameters : only_parameters ms ≡ only_parameters ns
+
+-- no item before defines the name
+abbrev pub IsFirst : List Item → Option (List ℕ) → Type 0
+IsFirst before None = Unit {0}
+IsFirst before (Some n) = list_any (λ j. defines n j.name) before ≡ false
+
+-- no item defines a name that one before it defines
+abbrev pub NeverTwice : List Item → List Item → Type 0
+NeverTwice before [] = Unit {0}
+NeverTwice before (i ∷ is) = IsFirst before i.name × NeverTwice (before ++ i ∷ []) is

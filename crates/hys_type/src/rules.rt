@@ -5,7 +5,8 @@ ghost use Rattle.std.specs.Prelude.{◌≡◌, ◌↔◌, ◌⊎◌, ℕ, List, 
 ghost use Rattle.hys_number.specs.Ops.{whole, neg};
 ghost use Rattle.hys_lin.specs.Operations.{minus};
 ghost use Rattle.std.specs.List.{AllByRecursion};
-ghost use Rattle.hys_ast.specs.Tree.{Tree, Decl};
+ghost use Rattle.hys_ast.specs.Tree.{Tree, Decl, Item};
+ghost use Rattle.hys_ast.specs.Nodes.{items_expressions};
 ghost use Rattle.hys_ast.specs.Tree as tree;
 ghost use Rattle.hys_ast.specs.declared.source.Kind.{Kind};
 ghost use Rattle.hys_ast.specs.declared.source.Kind.TheVariants as kind;
@@ -14,12 +15,13 @@ ghost use Rattle.hys_ast.specs.declared.tree.UnaryOp.TheVariants as unary;
 ghost use Rattle.hys_meaning.specs.Values.{literal};
 ghost use Rattle.hys_meaning.specs.Names.{Name};
 ghost use Rattle.hys_meaning.specs.Folding.{first_unfit, numbers_of, value_of, bounds_of};
-ghost use Rattle.hys_meaning.specs.Unfolded.{named, named_below, is_inequality};
-ghost use Rattle.hys_meaning.specs.Typed.{IsOfKind, IsFormula, IsComparison, is_comparison};
+ghost use Rattle.hys_meaning.specs.Unfolded.{named, named_below, named_items, behind, is_inequality};
+ghost use Rattle.hys_meaning.specs.Typed.{IsOfKind, IsFormula, IsComparison, ItemTyped, is_comparison};
 ghost use Rattle.hys_type.specs.Faults.{first_fault};
 ghost use Rattle.hys_type.specs.Declarations.{constant_of_kind};
-ghost use Rattle.hys_type.specs.Checks.{fault_of, of_kind, expression, has_top, demanded};
-ghost use Rattle.hys_type.specs.Written.{NamesNoGuard, SameNames, AreNamed, Compare, AreKnown, AreAmong, IsReadDecl};
+ghost use Rattle.hys_type.specs.Checks.{fault_of, of_kind, expression, has_top, demanded, scoped, item_checks};
+ghost use Rattle.hys_type.specs.Walks.{walk};
+ghost use Rattle.hys_type.specs.Written.{NamesNoGuard, SameNames, AreNamed, Compare, AreKnown, AreAmong, IsReadDecl, IsReadItem, GoTogether, NeverTwice};
 ghost use Rattle.hys_type.specs.DeclarationKeeping.{declared_names, declaration_checks, KeepDeclarations};
 ghost use Rattle.hys_type.specs.declared.constant.Known.{Known};
 ghost use Rattle.hys_type.specs.Examples.{spot, digits, name, zero_at, ten_at, state, next, source, stepping};
@@ -67,4 +69,14 @@ pub fn expression_rules()
 pub fn declaration_rules()
     ensures { (ds : List Decl) → AllByRecursion IsReadDecl ds →
         (first_fault (declaration_checks ds) ≡ None) ↔ (KeepDeclarations ds × (first_unfit (flat_map (numbers_of (declared_names ds)) (flat_map value_of ds ++ flat_map bounds_of ds)) ≡ None)) }
+{}
+
+/// The checks of items pass exactly where no item defines a name that one before it defines, each
+/// item is typed once its unnamed guards have names, so are the items of those guards, and the
+/// numbers of all expressions fit.
+pub fn item_rules()
+    ensures { (ns ms : List Name) (ks : List Known) → GoTogether ns ms ks → (is : List Item) (k : ℕ) → AllByRecursion IsReadItem is →
+        AreNamed ms (flat_map (λ u. u.guards) (named_items k is)) →
+        (first_fault (walk (item_checks (scoped ns ks)) [] is) ≡ None) ↔
+        (NeverTwice [] is × AllByRecursion (ItemTyped ms) (flat_map behind (named_items k is)) × (first_unfit (flat_map (numbers_of ns) (items_expressions is)) ≡ None)) }
 {}
