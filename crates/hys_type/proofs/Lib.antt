@@ -48,3 +48,4 @@ pub mod ValueRules
 pub mod DeclarationRules
 pub mod RightRules
 pub mod ItemRules
+pub mod SourceRules

@@ -35,7 +35,7 @@ look_front (x ∷ ns) ms n m h = go (bytes_eq x.text n) h (look_front ns ms n m)
     go true h f = h
     go false h f = f h
 
-abbrev or_name : Option Name → Option Name → Option Name
+abbrev pub or_name : Option Name → Option Name → Option Name
 or_name (Some m) o = Some m
 or_name None o = o
 

@@ -76,7 +76,7 @@ value_rule ks qs ns d h a r = go (is_parameter d.section) d.value r.1
     go false (Some e) f = let i = f refl in absurd (cc)
 
 -- ---- all values
-filter_join : (xs ys : List Name) → only_parameters (xs ++ ys) ≡ only_parameters xs ++ only_parameters ys
+pub filter_join : (xs ys : List Name) → only_parameters (xs ++ ys) ≡ only_parameters xs ++ only_parameters ys
 filter_join [] ys = refl
 filter_join (x ∷ xs) ys = go (is_parameter x.section) (filter_join xs ys)
   where

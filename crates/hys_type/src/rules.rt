@@ -5,7 +5,7 @@ ghost use Rattle.std.specs.Prelude.{◌≡◌, ◌↔◌, ◌⊎◌, ℕ, List, 
 ghost use Rattle.hys_number.specs.Ops.{whole, neg};
 ghost use Rattle.hys_lin.specs.Operations.{minus};
 ghost use Rattle.std.specs.List.{AllByRecursion};
-ghost use Rattle.hys_ast.specs.Tree.{Tree, Decl, Item};
+ghost use Rattle.hys_ast.specs.Tree.{Tree, Decl, Item, Source};
 ghost use Rattle.hys_ast.specs.Nodes.{items_expressions};
 ghost use Rattle.hys_ast.specs.Tree as tree;
 ghost use Rattle.hys_ast.specs.declared.source.Kind.{Kind};
@@ -14,7 +14,7 @@ ghost use Rattle.hys_ast.specs.declared.tree.BinaryOp.TheVariants as binary;
 ghost use Rattle.hys_ast.specs.declared.tree.UnaryOp.TheVariants as unary;
 ghost use Rattle.hys_meaning.specs.Values.{literal};
 ghost use Rattle.hys_meaning.specs.Names.{Name};
-ghost use Rattle.hys_meaning.specs.Folding.{first_unfit, numbers_of, value_of, bounds_of};
+ghost use Rattle.hys_meaning.specs.Folding.{first_unfit, numbers_of, value_of, bounds_of, folded};
 ghost use Rattle.hys_meaning.specs.Unfolded.{named, named_below, named_items, behind, is_inequality};
 ghost use Rattle.hys_meaning.specs.Typed.{IsOfKind, IsFormula, IsComparison, ItemTyped, is_comparison};
 ghost use Rattle.hys_type.specs.Faults.{first_fault};
@@ -22,7 +22,7 @@ ghost use Rattle.hys_type.specs.Declarations.{constant_of_kind};
 ghost use Rattle.hys_type.specs.Checks.{fault_of, of_kind, expression, has_top, demanded, scoped, item_checks};
 ghost use Rattle.hys_type.specs.Walks.{walk};
 ghost use Rattle.hys_type.specs.Written.{NamesNoGuard, SameNames, AreNamed, Compare, AreKnown, AreAmong, IsReadDecl, IsReadItem, GoTogether, NeverTwice};
-ghost use Rattle.hys_type.specs.DeclarationKeeping.{declared_names, declaration_checks, KeepDeclarations};
+ghost use Rattle.hys_type.specs.DeclarationKeeping.{declared_names, declaration_checks, KeepDeclarations, IsReadSource, KeepsItsRules};
 ghost use Rattle.hys_type.specs.declared.constant.Known.{Known};
 ghost use Rattle.hys_type.specs.Examples.{spot, digits, name, zero_at, ten_at, state, next, source, stepping};
 ghost use Rattle.hys_type.specs.TwoFaults.{x_at, two, largest_at, parameter, linear, guarding};
@@ -79,4 +79,10 @@ pub fn item_rules()
         AreNamed ms (flat_map (λ u. u.guards) (named_items k is)) →
         (first_fault (walk (item_checks (scoped ns ks)) [] is) ≡ None) ↔
         (NeverTwice [] is × AllByRecursion (ItemTyped ms) (flat_map behind (named_items k is)) × (first_unfit (flat_map (numbers_of ns) (items_expressions is)) ≡ None)) }
+{}
+
+/// A source that is read from a text has no fault exactly where it keeps its rules and each number
+/// of its expressions fits.
+pub fn rules_hold()
+    ensures { (s : Source) → IsReadSource s → (fault_of s ≡ None) ↔ (KeepsItsRules s × (first_unfit (folded s) ≡ None)) }
 {}
