@@ -275,10 +275,11 @@ module _ (ks : List Known) (ps ns : List Name) (known : AreKnown ks ps) (among :
       let i : IsReal ps a = subst (λ s. IsConstantOf s ps a) e.0 l.part in
       let j : IsReal ps b = subst (λ s. IsConstantOf s ps b) e.1 r.part in
       let f = constant_form a i in
-      let g = constant_form b j in
-      ((i, j, divisor_folds op (form ps a) (form ps b) p t f.0 g.0 (subst (λ y. Pass (divisor_checks op y p)) g.1 d)),
-          subst₂ (λ (x y : Form). Fit (all_at p (folding ns op x y))) (sym (form_among a i)) (sym (form_among b j))
-          (folding_fit ns op (form ps a) (form ps b) p t f.0 g.0 (subst₂ (λ x y. Pass (in_range p (operation op x y))) f.1 g.1 o)))
+      let g = constant_form b j in (
+        (i, j, divisor_folds op (form ps a) (form ps b) p t f.0 g.0 (subst (λ y. Pass (divisor_checks op y p)) g.1 d)),
+        subst₂ (λ (x y : Form). Fit (all_at p (folding ns op x y))) (sym (form_among a i)) (sym (form_among b j))
+            (folding_fit ns op (form ps a) (form ps b) p t f.0 g.0 (subst₂ (λ x y. Pass (in_range p (operation op x y))) f.1 g.1 o)),
+      )
 
   formula_kept : (op : BinaryOp) (a b : Tree) (p : Place) → IsTrue (is_connective op) → is_bool (known_sort ks a) && is_bool (known_sort ks b) ≡ true → ConstantKept ks ps ns a → ConstantKept ks ps ns b → IsFormula ps (tree.Binary op a b p)
   formula_kept op a b p t h l r =

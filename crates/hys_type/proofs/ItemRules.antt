@@ -91,11 +91,12 @@ module _ (ns ms : List Name) (ks : List Known) (g : GoTogether ns ms ks) where
       there c =
           let l = (left_rule ns before i i.name r.demands).0 (pass_front (if_some (left_checks ns before i) i.name) (right_checks (scoped ns ks) (left_name ns i.name) i.place (body i)) c) in
           let d = pass_behind (if_some (left_checks ns before i) i.name) (right_checks (scoped ns ks) (left_name ns i.name) i.place (body i)) c in
-          let t = (right_rule ns ms ks g i.section i.shape i.name i.place k r.right r.names l.0 q).0 d in
-          (l.1,
-              all_join _ (map guard_item (named_shape i.section k i.shape).guards) ((named_item k i).part ∷ []) (guards_typed ms (named_shape i.section k i.shape).guards q t.0)
-              ((left_there i.section i.name r.left l.0, subst (λ o. RightTyped ms o (body_in i.section (named_shape i.section k i.shape).part)) (sym (left_same i.name r.left)) t.1), tt),
-              t.2)
+          let t = (right_rule ns ms ks g i.section i.shape i.name i.place k r.right r.names l.0 q).0 d in (
+            l.1,
+            all_join _ (map guard_item (named_shape i.section k i.shape).guards) ((named_item k i).part ∷ []) (guards_typed ms (named_shape i.section k i.shape).guards q t.0)
+                ((left_there i.section i.name r.left l.0, subst (λ o. RightTyped ms o (body_in i.section (named_shape i.section k i.shape).part)) (sym (left_same i.name r.left)) t.1), tt),
+            t.2,
+          )
 
       back : IsFirst before i.name × AllByRecursion (ItemTyped ms) (behind (named_item k i)) × FitOf ns (shape_expressions i.shape) → Pass (item_checks (scoped ns ks) before i)
       back t =
@@ -120,9 +121,10 @@ module _ (ns ms : List Name) (ks : List Known) (g : GoTogether ns ms ks) where
 
       back : NeverTwice before (i ∷ is) × AllByRecursion (ItemTyped ms) (flat_map behind (named_items k (i ∷ is))) × FitOf ns (items_expressions (i ∷ is)) → EachPasses (item_checks (scoped ns ks)) before (i ∷ is)
       back t =
-          let f = fit_of_split ns (shape_expressions i.shape) (items_expressions is) t.2 in
-          (one.1 (t.0.0, all_front _ (behind (named_item k i)) (flat_map behind (named_items (named_item k i).next is)) t.1, f.0),
-              more.1 (t.0.1, all_behind _ (behind (named_item k i)) (flat_map behind (named_items (named_item k i).next is)) t.1, f.1))
+          let f = fit_of_split ns (shape_expressions i.shape) (items_expressions is) t.2 in (
+            one.1 (t.0.0, all_front _ (behind (named_item k i)) (flat_map behind (named_items (named_item k i).next is)) t.1, f.0),
+            more.1 (t.0.1, all_behind _ (behind (named_item k i)) (flat_map behind (named_items (named_item k i).next is)) t.1, f.1),
+          )
 
   items_walk : (before is : List Item) (k : ℕ) → AllByRecursion IsReadItem is → AreNamed ms (flat_map (λ (u : Naming Item). u.guards) (named_items k is)) → ItemsRule before is k
   items_walk before [] k r q = (λ c. (tt, tt, tt), λ t. tt)

@@ -214,9 +214,12 @@ module _ (ns ms : List Name) (same : SameNames ns ms) (k : ℕ) (a b : Tree) (p 
   arithmetic_part op y q i j h l =
       let e = both_real (sort ns a) (sort ns b) h in
       let c : IsReal ms (named k a).part = subst (λ t. IsSorted t ms (named k a).part) e.0 i in
-      let d : IsReal ms (named later b).part = subst (λ t. IsSorted t ms (named later b).part) e.1 j in
-      (c, d, subst₂ (λ (f g : Form). Folds op f g) (sym (real_same ns ms same k a w (all_front _ first second q) c)) (sym (real_same ns ms same later b x (all_behind _ first second q) d))
-          (linear_folds ns op (form ns a) (form ns b) p y (outside ns a) (outside ns b) l))
+      let d : IsReal ms (named later b).part = subst (λ t. IsSorted t ms (named later b).part) e.1 j in (
+        c,
+        d,
+        subst₂ (λ (f g : Form). Folds op f g) (sym (real_same ns ms same k a w (all_front _ first second q) c)) (sym (real_same ns ms same later b x (all_behind _ first second q) d))
+            (linear_folds ns op (form ns a) (form ns b) p y (outside ns a) (outside ns b) l),
+      )
 
   formula_part : (op : BinaryOp) → IsTrue (is_connective op) → IsSorted (sort ns a) ms (named k a).part → IsSorted (sort ns b) ms (named later b).part → is_bool (sort ns a) && is_bool (sort ns b) ≡ true →
       IsFormula ms (tree.Binary op (named k a).part (named later b).part p)

@@ -136,10 +136,10 @@ module _ (ns ms : List Name) (ks : List Known) (g : GoTogether ns ms ks) where
       (Compare ms (named_below k e).guards × (IsComparison is_inequality ms (named_below k e).part × IsTolerance ms t) × FitOf ns (e ∷ t ∷ []))
   wide_rule k p e t w q = (
     λ c. let r = (guard_rule ns ms g.same k e w q).0 (pass_front (expression ns (has_top is_inequality) e) (tolerance_checks ks p t) c) in
-    let u = (tolerance_rule p t).0 (pass_behind (expression ns (has_top is_inequality) e) (tolerance_checks ks p t) c) in
-    (r.0, (r.1, u.0), fit_of_join ns (e ∷ []) (t ∷ []) (fit_one ns e r.2) u.1),
+        let u = (tolerance_rule p t).0 (pass_behind (expression ns (has_top is_inequality) e) (tolerance_checks ks p t) c) in
+        (r.0, (r.1, u.0), fit_of_join ns (e ∷ []) (t ∷ []) (fit_one ns e r.2) u.1),
     λ v. let f = fit_of_split ns (e ∷ []) (t ∷ []) v.2 in
-    pass_join (expression ns (has_top is_inequality) e) (tolerance_checks ks p t) ((guard_rule ns ms g.same k e w q).1 (v.0, v.1.0, one_fit ns e f.0)) ((tolerance_rule p t).1 (v.1.1, f.1)),
+        pass_join (expression ns (has_top is_inequality) e) (tolerance_checks ks p t) ((guard_rule ns ms g.same k e w q).1 (v.0, v.1.0, one_fit ns e f.0)) ((tolerance_rule p t).1 (v.1.1, f.1)),
   )
 
   must_rule : (k : ℕ) (e : Tree) → NamesNoGuard e → AreNamed ms (named_below k e).guards → Pass (expression ns (demanded ns) e) ↔

@@ -77,9 +77,10 @@ all_found w (g ∷ gs) = (ap (λ b. suits section.Ad (cond b (Some (name_of w (g
 
 are_named : (w : Assignment) (ds : List Decl) (gs hs : List Guard) → AllByRecursion IsReadDecl ds → AllByRecursion (IsFound w gs) hs → AreNamed (map (name_of w) ds ++ guard_names w gs) hs
 are_named w ds gs [] r h = tt
-are_named w ds gs (x ∷ hs) r h =
-    (ap (suits section.Ad) (look_join (map (name_of w) ds) (guard_names w gs) (guard_name x.number) ∙ ap (λ o. or_name o (look (guard_names w gs) (guard_name x.number))) (no_declared_guard w ds r x.number)) ∙ h.0,
-        are_named w ds gs hs r h.1)
+are_named w ds gs (x ∷ hs) r h = (
+  ap (suits section.Ad) (look_join (map (name_of w) ds) (guard_names w gs) (guard_name x.number) ∙ ap (λ o. or_name o (look (guard_names w gs) (guard_name x.number))) (no_declared_guard w ds r x.number)) ∙ h.0,
+  are_named w ds gs hs r h.1,
+)
 
 no_parameters : (w : Assignment) (gs : List Guard) → only_parameters (guard_names w gs) ≡ []
 no_parameters w [] = refl
@@ -133,9 +134,10 @@ source_rule s r = (there, back)
         let c5 = pass_behind (walk (item_checks (scope s)) [] s.items) (walk (λ (before : List Decl) (d : Decl). missing_checks s.items d) [] s.decls) c4 in
         let d = (declarations_rule s.decls r.decls).0 (pass_join (walk name_checks [] s.decls) _ (pass_front (walk name_checks [] s.decls) _ c) (pass_join (walk (value_checks s.decls) [] s.decls) _ (pass_front (walk (value_checks s.decls) [] s.decls) _ c2) (pass_front (walk (λ (before : List Decl) (d : Decl). box_checks (known s.decls s.decls) d) [] s.decls) _ c3))) in
         let i = (items_rule (names s) (names (unfolded s)) (known s.decls s.decls) (go_together s r.decls d.0) s.items 1 r.items (guards_named s r.decls)).0 (pass_front (walk (item_checks (scope s)) [] s.items) (walk (λ (before : List Decl) (d : Decl). missing_checks s.items d) [] s.decls) c4) in
-        let f = fit_of_split (names s) (flat_map value_of s.decls) (flat_map bounds_of s.decls) d.1 in
-        (record { declarations = d.0; typed = i.1; once = i.0; defined = missing_there s.items [] s.decls (walk_passes _ [] s.decls c5) },
-            fit_of_join (names s) (flat_map value_of s.decls) (flat_map bounds_of s.decls ++ items_expressions s.items) f.0 (fit_of_join (names s) (flat_map bounds_of s.decls) (items_expressions s.items) f.1 i.2))
+        let f = fit_of_split (names s) (flat_map value_of s.decls) (flat_map bounds_of s.decls) d.1 in (
+          record { declarations = d.0; typed = i.1; once = i.0; defined = missing_there s.items [] s.decls (walk_passes _ [] s.decls c5) },
+          fit_of_join (names s) (flat_map value_of s.decls) (flat_map bounds_of s.decls ++ items_expressions s.items) f.0 (fit_of_join (names s) (flat_map bounds_of s.decls) (items_expressions s.items) f.1 i.2),
+        )
 
     back : KeepsItsRules s × FitOf (names s) (judged s) → Pass (checks s)
     back t =

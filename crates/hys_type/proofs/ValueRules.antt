@@ -120,9 +120,10 @@ module _ (all : List Decl) (once : IsTrue (differ (declared_texts all))) where
       HaveV rest → ValuesTyped final bs rest → FitOf every (flat_map value_of rest) → EachPasses (value_checks all) before rest
   values_back before [] bs e r h v t f = tt
   values_back before (d ∷ rest) bs e r h v t f =
-      let g = fit_of_split every (value_of d) (flat_map value_of rest) f in
-      ((value_rule (known all before) (only_parameters bs) every d h.known (front_among every bs (map (name_of final) (d ∷ rest)) e every_among) r.0).1 (v.0, t.0, g.0),
-          values_back (before ++ d ∷ []) rest (bs ++ name_of final d ∷ []) (next_names bs d rest e) r.1 (values_step before rest bs d v.0 h) v.1 t.1 g.1)
+      let g = fit_of_split every (value_of d) (flat_map value_of rest) f in (
+        (value_rule (known all before) (only_parameters bs) every d h.known (front_among every bs (map (name_of final) (d ∷ rest)) e every_among) r.0).1 (v.0, t.0, g.0),
+        values_back (before ++ d ∷ []) rest (bs ++ name_of final d ∷ []) (next_names bs d rest e) r.1 (values_step before rest bs d v.0 h) v.1 t.1 g.1,
+      )
 
   others_plain : (ds : List Decl) (n : List ℕ) → KnownAs (find_known (others ds) n) None
   others_plain [] n = tt
@@ -170,9 +171,11 @@ module _ (all : List Decl) (once : IsTrue (differ (declared_texts all))) where
           let rest = pass_behind (constant_of_kind kind.Real ks low) _ c in
           let i = (constant_rule ks (only_parameters every) every h every_among kind.Real low).0 (pass_front (constant_of_kind kind.Real ks low) _ c) in
           let j = (constant_rule ks (only_parameters every) every h every_among kind.Real high).0 (pass_front (constant_of_kind kind.Real ks high) (ends_checks (value (known_values ks) low) (value (known_values ks) high) d.place) rest) in
-          let l = (pass_behind (constant_of_kind kind.Real ks high) (ends_checks (value (known_values ks) low) (value (known_values ks) high) d.place) rest).0 in
-          ((i.0, j.0), subst (λ (w : Assignment). value w low ≤ₙ value w high) e ((is_le-cmp (value (known_values ks) low) (value (known_values ks) high)).0 (sym (most_is (number_cmp (value (known_values ks) low) (value (known_values ks) high))) ∙ l)),
-              fit_of_join every (low ∷ []) (high ∷ []) (fit_one every low i.1) (fit_one every high j.1))
+          let l = (pass_behind (constant_of_kind kind.Real ks high) (ends_checks (value (known_values ks) low) (value (known_values ks) high) d.place) rest).0 in (
+            (i.0, j.0),
+            subst (λ (w : Assignment). value w low ≤ₙ value w high) e ((is_le-cmp (value (known_values ks) low) (value (known_values ks) high)).0 (sym (most_is (number_cmp (value (known_values ks) low) (value (known_values ks) high))) ∙ l)),
+            fit_of_join every (low ∷ []) (high ∷ []) (fit_one every low i.1) (fit_one every high j.1),
+          )
 
       back : (low high : Tree) → IsReal (only_parameters every) low → IsReal (only_parameters every) high → value final low ≤ₙ value final high → FitOf every (low ∷ high ∷ []) → Pass (bounds_checks ks low high d.place)
       back low high i j l f =
