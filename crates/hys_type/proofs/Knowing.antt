@@ -30,7 +30,7 @@ pub all_others : (ks : List Known) (ds : List Decl) (i : ℕ) → length ds ≤ 
 all_others ks ds i h w = sym (append-nil ks) ∙ ap (λ ys. ks ++ others (map decl_of ys)) (sym (drop_all i ds h)) ∙ w
 
 -- ---- parameters
-with_last : (ks : List Known) (ds : List tree.Decl) (d : tree.Decl) → with_parameters ks (ds ++ d ∷ []) ≡ with_parameter (with_parameters ks ds) d
+pub with_last : (ks : List Known) (ds : List tree.Decl) (d : tree.Decl) → with_parameters ks (ds ++ d ∷ []) ≡ with_parameter (with_parameters ks ds) d
 with_last ks [] d = refl
 with_last ks (x ∷ ds) d = with_last (with_parameter ks x) ds d
 

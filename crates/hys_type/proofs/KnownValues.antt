@@ -60,11 +60,11 @@ abbrev pub declared_texts : List Decl → List (List ℕ)
 declared_texts ds = map (λ d. d.name) ds
 
 -- ---- one name more
-abbrev or_else : Option Known → Option Known → Option Known
+abbrev pub or_else : Option Known → Option Known → Option Known
 or_else (Some k) o = Some k
 or_else None o = o
 
-find_last : (ks : List Known) (k : Known) (n : List ℕ) → find_known (ks ++ k ∷ []) n ≡ or_else (find_known ks n) (find_known (k ∷ []) n)
+pub find_last : (ks : List Known) (k : Known) (n : List ℕ) → find_known (ks ++ k ∷ []) n ≡ or_else (find_known ks n) (find_known (k ∷ []) n)
 find_last [] k n = refl
 find_last (x ∷ ks) k n = go (bytes_eq x.text n) (find_last ks k n)
   where
@@ -74,7 +74,7 @@ find_last (x ∷ ks) k n = go (bytes_eq x.text n) (find_last ks k n)
     go false h = h
 
 -- no parameter among the declarations is known
-abbrev Fresh : List Known → List Decl → Type 0
+abbrev pub Fresh : List Known → List Decl → Type 0
 Fresh ks ds = AllByRecursion (λ d. IsTrue (is_parameter d.section) → find_known ks d.name ≡ None) ds
 
 fresh_first : (k : Known) (ks : List Known) (ds : List Decl) → Apart k.text (declared_texts ds) → Fresh ks ds → Fresh (k ∷ ks) ds
@@ -98,7 +98,7 @@ absent_others n (d ∷ ds) a = go (is_parameter d.section) (absent_others n ds a
     go true h = h
     go false h = ap (λ b. cond b (Some (other d)) (find_known (others ds) n)) (other_text d.name n a.0) ∙ h
 
-fresh_others : (ds : List Decl) → Differ (declared_texts ds) → Fresh (others ds) ds
+pub fresh_others : (ds : List Decl) → Differ (declared_texts ds) → Fresh (others ds) ds
 fresh_others [] h = tt
 fresh_others (d ∷ ds) h = go (is_parameter d.section) (fresh_others ds h.1)
   where
@@ -107,7 +107,7 @@ fresh_others (d ∷ ds) h = go (is_parameter d.section) (fresh_others ds h.1)
     go true f = (λ p. absent_others d.name ds h.0, f)
     go false f = (λ p. absurd (cc), fresh_first (other d) (others ds) ds h.0 f)
 
-others_zero : (ds : List Decl) (n : List ℕ) → known_values (others ds) n ≡ whole 0
+pub others_zero : (ds : List Decl) (n : List ℕ) → known_values (others ds) n ≡ whole 0
 others_zero [] n = refl
 others_zero (d ∷ ds) n = go (is_parameter d.section) (others_zero ds n)
   where
@@ -138,7 +138,7 @@ zero_value ks t n h = go (bytes_eq t n) refl
     go true e = sym (ap known_value (ap (find_known ks) (sym (same_text t n e)) ∙ h))
     go false e = refl
 
-one_more : (ks : List Known) (d : Decl) → (IsTrue (is_parameter d.section) → find_known ks d.name ≡ None) → known_values (with_parameter ks d) ≡ with_value (is_parameter d.section) d.kind d.name d.value (known_values ks)
+pub one_more : (ks : List Known) (d : Decl) → (IsTrue (is_parameter d.section) → find_known ks d.name ≡ None) → known_values (with_parameter ks d) ≡ with_value (is_parameter d.section) d.kind d.name d.value (known_values ks)
 one_more ks d h = go (is_parameter d.section) d.value h
   where
     go : (b : Bool) (o : Option Tree) → (IsTrue b → find_known ks d.name ≡ None) →
@@ -147,14 +147,14 @@ one_more ks d h = go (is_parameter d.section) d.value h
     go true None h = fun_ext (λ n. one_value ks (record { text = d.name; kind = d.kind; value = None }) n (h refl) ∙ zero_value ks d.name n (h refl))
     go false o h = refl
 
-fresh_more : (ks : List Known) (d : Decl) (ds : List Decl) → Apart d.name (declared_texts ds) → Fresh ks ds → Fresh (with_parameter ks d) ds
+pub fresh_more : (ks : List Known) (d : Decl) (ds : List Decl) → Apart d.name (declared_texts ds) → Fresh ks ds → Fresh (with_parameter ks d) ds
 fresh_more ks d ds a f = go (is_parameter d.section)
   where
     go : (b : Bool) → Fresh (cond b (ks ++ record { text = d.name; kind = d.kind; value = given_value d.kind (known_values ks) d.value } ∷ []) ks) ds
     go true = fresh_last (record { text = d.name; kind = d.kind; value = given_value d.kind (known_values ks) d.value }) ks ds a f
     go false = f
 
-all_values : (ks : List Known) (ds : List Decl) → Fresh ks ds → Differ (declared_texts ds) → known_values (with_parameters ks ds) ≡ valued (known_values ks) ds
+pub all_values : (ks : List Known) (ds : List Decl) → Fresh ks ds → Differ (declared_texts ds) → known_values (with_parameters ks ds) ≡ valued (known_values ks) ds
 all_values ks [] f h = refl
 all_values ks (d ∷ ds) f h = all_values (with_parameter ks d) ds (fresh_more ks d ds h.0 f.1) h.1 ∙ ap (λ w. valued w ds) (one_more ks d f.0)
 

@@ -50,3 +50,15 @@ pub mod Bodies
 pub mod Weights
 pub mod Beginnings
 pub mod DeclaredNames
+pub mod Passing
+pub mod Linear
+pub mod NodeRules
+pub mod ConstantRules
+pub mod PlaceRules
+pub mod DeclaredRules
+pub mod ParameterRules
+pub mod ValueRules
+pub mod DeclarationRules
+pub mod RightRules
+pub mod ItemRules
+pub mod SourceRules

@@ -75,7 +75,7 @@ none_is ns f d h = ap (list_all is_zero) h.factors ∙ over ns
     over (n ∷ ns) = ap (λ (b : Bool). is_zero (f.factor n.text) && b) (over ns)
 
 -- ---- products
-zero_is : (a : Number) → is_zero a ≡ true → a ≡ whole 0
+pub zero_is : (a : Number) → is_zero a ≡ true → a ≡ whole 0
 unfolding is_zero
 zero_is a e = (zero_num a).0 (int_eq_is a.num (pos 0) e)
   where

@@ -17,3 +17,6 @@ pub mod SmallProgram
 pub mod Made
 pub mod Built
 pub mod Begins
+pub mod TwoFaults
+pub mod Written
+pub mod DeclarationKeeping

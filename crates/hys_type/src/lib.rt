@@ -17,6 +17,7 @@ mod names;
 mod node;
 mod parameters;
 mod right;
+pub mod rules;
 mod scope;
 mod translation;
 mod weight;
