@@ -40,5 +40,6 @@ pub mod AlikeRules
 pub mod Points
 pub mod Shown
 pub mod UpwardPath
+pub mod Shows
 pub mod Pins
 pub mod WorkedUnfit
