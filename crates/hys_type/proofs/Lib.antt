@@ -49,3 +49,4 @@ pub mod DeclarationRules
 pub mod RightRules
 pub mod ItemRules
 pub mod SourceRules
+pub mod GuardCounts
