@@ -50,3 +50,4 @@ pub mod RightRules
 pub mod ItemRules
 pub mod SourceRules
 pub mod GuardCounts
+pub mod TypingRules

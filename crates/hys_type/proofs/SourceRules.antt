@@ -4,6 +4,7 @@ use Rattle.std.specs.Prelude.{IsTrue}
 use Rattle.std.specs.Str.{bytes_eq}
 use Rattle.std.specs.List.{AllByRecursion, list_any}
 use Rattle.std.proofs.lemmas.List.{append-nil}
+use Rattle.hys_number.specs.Ops.{whole}
 use Rattle.hys_ast.specs.declared.source.Section.TheVariants as section
 use Rattle.hys_ast.specs.Tree.{Decl, Item, Source}
 use Rattle.hys_ast.specs.Nodes.{items_expressions}
@@ -41,6 +42,9 @@ map_join w (x ∷ xs) ys = ap (λ zs. name_of w x ∷ zs) (map_join w xs ys)
 
 abbrev guard_names : Assignment → List Guard → List Name
 guard_names w gs = map (name_of w) (map guard_decl gs)
+
+pub values_more : (s : Source) → parameters (unfolded s).decls ≡ parameters s.decls
+values_more s = valued_join (λ n. whole 0) s.decls (map guard_decl (guards s)) ∙ valued_guards (parameters s.decls) (guards s)
 
 pub names_more : (s : Source) → names (unfolded s) ≡ names s ++ guard_names (parameters s.decls) (guards s)
 names_more s =
