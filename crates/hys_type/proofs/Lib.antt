@@ -51,3 +51,4 @@ pub mod ItemRules
 pub mod SourceRules
 pub mod GuardCounts
 pub mod TypingRules
+pub mod RulesKept

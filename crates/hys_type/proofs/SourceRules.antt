@@ -90,6 +90,10 @@ no_parameters : (w : Assignment) (gs : List Guard) → only_parameters (guard_na
 no_parameters w [] = refl
 no_parameters w (g ∷ gs) = no_parameters w gs
 
+pub same_parameters : (s : Source) → only_parameters (names (unfolded s)) ≡ only_parameters (names s)
+same_parameters s =
+    ap only_parameters (names_more s) ∙ filter_join (names s) (guard_names (parameters s.decls) (guards s)) ∙ ap (λ xs. only_parameters (names s) ++ xs) (no_parameters (parameters s.decls) (guards s)) ∙ append-nil (only_parameters (names s))
+
 -- ---- names and guards go together
 go_together_by : (ds : List Decl) (gs : List Guard) → AllByRecursion IsReadDecl ds → KeepDeclarations ds → GoTogether (declared_names ds) (declared_names ds ++ guard_names (parameters ds) gs) (known ds ds)
 go_together_by ds gs r k = record {

@@ -19,19 +19,19 @@ use Rattle.hys_type.proofs.SourceRules.{names_more, values_more, go_together}
 use Rattle.hys_type.proofs.GuardCounts.{Counted, all_guards, items_counted, other_guard, guards_differ, differ_more}
 
 -- ---- how often a name is defined
-abbrev times_defined : List ℕ → List Item → ℕ
+abbrev pub times_defined : List ℕ → List Item → ℕ
 times_defined n is = count_by (λ (i : Item). defines n i.name) is
 
-abbrev one_if : Bool → ℕ
+abbrev pub one_if : Bool → ℕ
 one_if b = cond b 1 0
 
 abbrev found_times : Bool → Bool → ℕ
 found_times b a = cond b 0 (one_if a)
 
-counts : (n : List ℕ) (i : Item) (is : List Item) → times_defined n (i ∷ is) ≡ cond (defines n i.name) 1 0 + times_defined n is
+pub counts : (n : List ℕ) (i : Item) (is : List Item) → times_defined n (i ∷ is) ≡ cond (defines n i.name) 1 0 + times_defined n is
 counts n i is = sum_by-cons (λ (y : Item). cond (defines n y.name) 1 0) i is
 
-counts_join : (n : List ℕ) (xs ys : List Item) → times_defined n (xs ++ ys) ≡ times_defined n xs + times_defined n ys
+pub counts_join : (n : List ℕ) (xs ys : List Item) → times_defined n (xs ++ ys) ≡ times_defined n xs + times_defined n ys
 counts_join n [] ys = omega arith
 counts_join n (x ∷ xs) ys = omega (arith, counts n x (xs ++ ys), counts n x xs, counts_join n xs ys)
 
@@ -137,7 +137,7 @@ guard_bounds : (w : Assignment) (gs : List Guard) → AllByRecursion (λ (d : De
 guard_bounds w [] = tt
 guard_bounds w (g ∷ gs) = (λ e. never e, guard_bounds w gs)
 
-boxes_as : (ns ms : List Name) (ds : List Decl) → only_parameters ms ≡ only_parameters ns → AllByRecursion (BoxTyped ns) ds → AllByRecursion (BoxTyped ms) ds
+pub boxes_as : (ns ms : List Name) (ds : List Decl) → only_parameters ms ≡ only_parameters ns → AllByRecursion (BoxTyped ns) ds → AllByRecursion (BoxTyped ms) ds
 boxes_as ns ms [] e h = tt
 boxes_as ns ms (d ∷ ds) e h = (subst (λ qs. IsMaybe (IsReal qs) d.low × IsMaybe (IsReal qs) d.high) (sym e) h.0, boxes_as ns ms ds e h.1)
 
