@@ -43,8 +43,15 @@ guards_apart n (g ∷ gs) h = counts n (guard_item g) (map guard_item gs) ∙ ap
 pub same_times : (n : List ℕ) (k : ℕ) (is : List Item) → IsNoGuard n → times_defined n (flat_map behind (named_items k is)) ≡ times_defined n is
 same_times n k [] h = refl
 same_times n k (i ∷ is) h =
-    omega (arith, counts_join n (behind (named_item k i)) (flat_map behind (named_items (named_item k i).next is)), counts_join n (map guard_item (named_item k i).guards) ((named_item k i).part ∷ []),
-    guards_apart n (named_item k i).guards h, counts n (named_item k i).part [], counts n i is, same_times n (named_item k i).next is h)
+    omega (
+      arith,
+      counts_join n (behind (named_item k i)) (flat_map behind (named_items (named_item k i).next is)),
+      counts_join n (map guard_item (named_item k i).guards) ((named_item k i).part ∷ []),
+      guards_apart n (named_item k i).guards h,
+      counts n (named_item k i).part [],
+      counts n i is,
+      same_times n (named_item k i).next is h,
+    )
 
 -- the name of a guard is defined as often as guards have it
 no_left : (k : ℕ) (m : Option (List ℕ)) → ((n : List ℕ) → m ≡ Some n → IsNoGuard n) → defines (guard_name k) m ≡ false
@@ -59,8 +66,15 @@ guard_times : (j k : ℕ) (is : List Item) → AllByRecursion IsReadItem is → 
 guard_times j k [] r = refl
 guard_times j k (i ∷ is) r =
     let z : one_if (defines (guard_name j) i.name) ≡ 0 = ap one_if (no_left j i.name r.0.left) in
-    omega (arith, z, counts_join (guard_name j) (behind (named_item k i)) (flat_map behind (named_items (named_item k i).next is)), counts_join (guard_name j) (map guard_item (named_item k i).guards) ((named_item k i).part ∷ []),
-    counts (guard_name j) (named_item k i).part [], guard_items_join (guard_name j) (named_item k i).guards (all_guards (named_item k i).next is), guard_times j (named_item k i).next is r.1)
+    omega (
+      arith,
+      z,
+      counts_join (guard_name j) (behind (named_item k i)) (flat_map behind (named_items (named_item k i).next is)),
+      counts_join (guard_name j) (map guard_item (named_item k i).guards) ((named_item k i).part ∷ []),
+      counts (guard_name j) (named_item k i).part [],
+      guard_items_join (guard_name j) (named_item k i).guards (all_guards (named_item k i).next is),
+      guard_times j (named_item k i).next is r.1,
+    )
 
 none_counted : (n k m : ℕ) (gs : List Guard) → n < k → k + length gs < 2 ^ 64 → Counted k gs m → times_defined (guard_name n) (map guard_item gs) ≡ 0
 none_counted n k m [] l b h = refl
@@ -71,17 +85,19 @@ none_counted n k m (g ∷ gs) l b h =
 later_once : (k m : ℕ) (g : Guard) (gs hs : List Guard) → g.number < k → k + length hs < 2 ^ 64 → Counted k hs m → AllByRecursion (λ (h : Guard). times_defined (guard_name h.number) (map guard_item gs) ≡ 1) hs →
     AllByRecursion (λ (h : Guard). times_defined (guard_name h.number) (map guard_item (g ∷ gs)) ≡ 1) hs
 later_once k m g gs [] l b c h = tt
-later_once k m g gs (x ∷ hs) l b c h =
-    (counts (guard_name x.number) (guard_item g) (map guard_item gs)
-        ∙ ap₂ (λ (t : Bool) (y : ℕ). cond t 1 0 + y) (other_guard x.number g.number (omega (arith, b, c.0)) (omega (arith, l, b)) (λ e. omega (arith, l, e, c.0))) h.0,
-        later_once (suc k) m g gs hs (omega (arith, l)) (omega (arith, b)) c.1 h.1)
+later_once k m g gs (x ∷ hs) l b c h = (
+  counts (guard_name x.number) (guard_item g) (map guard_item gs)
+      ∙ ap₂ (λ (t : Bool) (y : ℕ). cond t 1 0 + y) (other_guard x.number g.number (omega (arith, b, c.0)) (omega (arith, l, b)) (λ e. omega (arith, l, e, c.0))) h.0,
+  later_once (suc k) m g gs hs (omega (arith, l)) (omega (arith, b)) c.1 h.1,
+)
 
 each_once : (k m : ℕ) (gs : List Guard) → k + length gs < 2 ^ 64 → Counted k gs m → AllByRecursion (λ (h : Guard). times_defined (guard_name h.number) (map guard_item gs) ≡ 1) gs
 each_once k m [] b c = tt
-each_once k m (g ∷ gs) b c =
-    (counts (guard_name g.number) (guard_item g) (map guard_item gs)
-        ∙ ap₂ (λ (t : Bool) (y : ℕ). cond t 1 0 + y) (own_text (guard_name g.number)) (none_counted g.number (suc k) m gs (omega (arith, c.0)) (omega (arith, b)) c.1),
-        later_once (suc k) m g gs gs (omega (arith, c.0)) (omega (arith, b)) c.1 (each_once (suc k) m gs (omega (arith, b)) c.1))
+each_once k m (g ∷ gs) b c = (
+  counts (guard_name g.number) (guard_item g) (map guard_item gs)
+      ∙ ap₂ (λ (t : Bool) (y : ℕ). cond t 1 0 + y) (own_text (guard_name g.number)) (none_counted g.number (suc k) m gs (omega (arith, c.0)) (omega (arith, b)) c.1),
+  later_once (suc k) m g gs gs (omega (arith, c.0)) (omega (arith, b)) c.1 (each_once (suc k) m gs (omega (arith, b)) c.1),
+)
 
 -- ---- a name that is defined, and never twice
 any_join : (n : List ℕ) (xs ys : List Item) → list_any (λ (i : Item). defines n i.name) (xs ++ ys) ≡ list_any (λ (i : Item). defines n i.name) xs || list_any (λ (i : Item). defines n i.name) ys

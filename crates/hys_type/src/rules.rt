@@ -1,7 +1,7 @@
 //! What the checks of a source and the rules of the language have to do with each other, as calls
 //! that do nothing.
 
-ghost use Rattle.std.specs.Prelude.{◌≡◌, ◌↔◌, ◌⊎◌, ℕ, List, [], ◌∷◌, ◌++◌, ◌+◌, ◌<◌, ◌^◌, length, flat_map, Some, None, true, codes};
+ghost use Rattle.std.specs.Prelude.{◌≡◌, ◌↔◌, ◌⊎◌, ℕ, List, [], ◌∷◌, ◌++◌, ◌+◌, ◌<◌, ◌≤◌, ◌^◌, length, flat_map, Some, None, true, codes};
 ghost use Rattle.hys_number.specs.Ops.{whole, neg};
 ghost use Rattle.hys_lin.specs.Operations.{minus};
 ghost use Rattle.std.specs.List.{AllByRecursion};
@@ -88,8 +88,10 @@ pub fn rules_hold()
     ensures { (s : Source) → IsReadSource s → (fault_of s ≡ None) ↔ (KeepsItsRules s × (first_unfit (folded s) ≡ None)) }
 {}
 
-/// The unfolded source of one without a fault keeps the rules of typing, where its unnamed guards
-/// are so few that their numbers fit 64 bits.
+/// A source that is read from a text has no fault exactly where its unfolded one keeps the rules of
+/// typing, at most 200 names are declared, and each number of its expressions fits. Its unnamed
+/// guards are so few that their numbers fit 64 bits, so that no two have the same name.
 pub fn typing_holds()
-    ensures { (s : Source) → IsReadSource s → 1 + length (guards s) < 2 ^ 64 → fault_of s ≡ None → KeepsTyping (unfolded s) }
+    ensures { (s : Source) → IsReadSource s → 1 + length (guards s) < 2 ^ 64 →
+        (fault_of s ≡ None) ↔ (KeepsTyping (unfolded s) × (length s.decls ≤ 200) × (first_unfit (folded s) ≡ None)) }
 {}
