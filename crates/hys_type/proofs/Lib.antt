@@ -15,6 +15,9 @@
 -- - `IsBodyOf` has its equations as arguments: a lemma puts both bodies in by `subst₂` at once (`said_as`), and `cc` ends
 --   the cases that can't be, and takes equal constructors apart.
 -- - A concrete source with an unnamed guard: prove it with the guard's text a variable (`small_by`), then put `@1` in.
+-- - That checks pass exactly where rules hold: `Pass` turns a list of checks into a product, and each rule is a `↔`
+--   over variables (`constant_rule`, `kind_rule`, .. , `items_rule`, `source_rule`) with the names as written on one side
+--   and those with the guards behind them on the other (`GoTogether`). Operators are split into their twelve cases.
 pub mod Firsts
 pub mod Constants
 pub mod Walks
@@ -62,3 +65,6 @@ pub mod DeclarationRules
 pub mod RightRules
 pub mod ItemRules
 pub mod SourceRules
+pub mod GuardCounts
+pub mod TypingRules
+pub mod RulesKept

@@ -4,6 +4,7 @@ use Rattle.std.specs.Prelude.{IsTrue}
 use Rattle.std.specs.Str.{bytes_eq}
 use Rattle.std.specs.List.{AllByRecursion, list_any}
 use Rattle.std.proofs.lemmas.List.{append-nil}
+use Rattle.hys_number.specs.Ops.{whole}
 use Rattle.hys_ast.specs.declared.source.Section.TheVariants as section
 use Rattle.hys_ast.specs.Tree.{Decl, Item, Source}
 use Rattle.hys_ast.specs.Nodes.{items_expressions}
@@ -41,6 +42,9 @@ map_join w (x ∷ xs) ys = ap (λ zs. name_of w x ∷ zs) (map_join w xs ys)
 
 abbrev guard_names : Assignment → List Guard → List Name
 guard_names w gs = map (name_of w) (map guard_decl gs)
+
+pub values_more : (s : Source) → parameters (unfolded s).decls ≡ parameters s.decls
+values_more s = valued_join (λ n. whole 0) s.decls (map guard_decl (guards s)) ∙ valued_guards (parameters s.decls) (guards s)
 
 pub names_more : (s : Source) → names (unfolded s) ≡ names s ++ guard_names (parameters s.decls) (guards s)
 names_more s =
@@ -85,6 +89,10 @@ are_named w ds gs (x ∷ hs) r h = (
 no_parameters : (w : Assignment) (gs : List Guard) → only_parameters (guard_names w gs) ≡ []
 no_parameters w [] = refl
 no_parameters w (g ∷ gs) = no_parameters w gs
+
+pub same_parameters : (s : Source) → only_parameters (names (unfolded s)) ≡ only_parameters (names s)
+same_parameters s =
+    ap only_parameters (names_more s) ∙ filter_join (names s) (guard_names (parameters s.decls) (guards s)) ∙ ap (λ xs. only_parameters (names s) ++ xs) (no_parameters (parameters s.decls) (guards s)) ∙ append-nil (only_parameters (names s))
 
 -- ---- names and guards go together
 go_together_by : (ds : List Decl) (gs : List Guard) → AllByRecursion IsReadDecl ds → KeepDeclarations ds → GoTogether (declared_names ds) (declared_names ds ++ guard_names (parameters ds) gs) (known ds ds)

@@ -16,7 +16,8 @@ declared_names ds = map (name_of (parameters ds)) ds
 
 -- the checks of names, values and boxes
 abbrev pub declaration_checks : List Decl → List Check
-declaration_checks ds = walk name_checks [] ds ++ (walk (value_checks ds) [] ds ++ walk (λ before d. box_checks (known ds ds) d) [] ds)
+declaration_checks ds =
+    walk name_checks [] ds ++ (walk (value_checks ds) [] ds ++ walk (λ before d. box_checks (known ds ds) d) [] ds)
 
 -- names are declared once and are at most 200, each parameter has a value, values and boxes are typed, and each real
 -- state and input has a box whose low end is at most its high end
@@ -34,10 +35,11 @@ pub record IsReadSource (s : Source) : Type 0 where
   pub decls : AllByRecursion IsReadDecl s.decls
   pub items : AllByRecursion IsReadItem s.items
 
--- The declarations keep their rules, each item and the item of each unnamed guard is typed, no name is defined twice, and
--- each AUX, STATE and OUTPUT name is defined.
+-- The declarations keep their rules, each item and the item of each unnamed guard is typed, no name is defined twice,
+-- and each AUX, STATE and OUTPUT name is defined.
 pub record KeepsItsRules (s : Source) : Type 0 where
   pub declarations : KeepDeclarations s.decls
   pub typed : AllByRecursion (ItemTyped (names (unfolded s))) (unfolded s).items
   pub once : NeverTwice [] s.items
-  pub defined : AllByRecursion (λ d. IsTrue (is_defined d.section) → IsTrue (list_any (λ i. defines d.name i.name) s.items)) s.decls
+  pub defined : AllByRecursion
+      (λ d. IsTrue (is_defined d.section) → IsTrue (list_any (λ i. defines d.name i.name) s.items)) s.decls

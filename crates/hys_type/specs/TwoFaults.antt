@@ -20,10 +20,26 @@ abbrev pub largest_at : ℕ → Tree
 largest_at n = digits (codes "9223372036854775807") n
 
 abbrev pub auxiliary : Decl
-auxiliary = record { section = section.Aux; kind = kind.Bool; name = codes "d"; place = spot 30; low = None; high = None; value = None }
+auxiliary = record {
+  section = section.Aux;
+  kind = kind.Bool;
+  name = codes "d";
+  place = spot 30;
+  low = None;
+  high = None;
+  value = None;
+}
 
 abbrev pub parameter : Kind → Option Tree → Decl
-parameter k e = record { section = section.Parameter; kind = k; name = codes "p"; place = spot 40; low = None; high = None; value = e }
+parameter k e = record {
+  section = section.Parameter;
+  kind = k;
+  name = codes "p";
+  place = spot 40;
+  low = None;
+  high = None;
+  value = e;
+}
 
 -- the auxiliary d is a comparison with a tolerance
 abbrev pub guard : Tree → Tree → Item

@@ -1,7 +1,7 @@
 //! What the checks of a source and the rules of the language have to do with each other, as calls
 //! that do nothing.
 
-ghost use Rattle.std.specs.Prelude.{◌≡◌, ◌↔◌, ◌⊎◌, ℕ, List, [], ◌∷◌, ◌++◌, flat_map, Some, None, true, codes};
+ghost use Rattle.std.specs.Prelude.{◌≡◌, ◌↔◌, ◌⊎◌, ℕ, List, [], ◌∷◌, ◌++◌, ◌+◌, ◌<◌, ◌≤◌, ◌^◌, length, flat_map, Some, None, true, codes};
 ghost use Rattle.hys_number.specs.Ops.{whole, neg};
 ghost use Rattle.hys_lin.specs.Operations.{minus};
 ghost use Rattle.std.specs.List.{AllByRecursion};
@@ -15,9 +15,10 @@ ghost use Rattle.hys_ast.specs.declared.tree.UnaryOp.TheVariants as unary;
 ghost use Rattle.hys_meaning.specs.Values.{literal};
 ghost use Rattle.hys_meaning.specs.Names.{Name};
 ghost use Rattle.hys_meaning.specs.Folding.{first_unfit, numbers_of, value_of, bounds_of, folded};
-ghost use Rattle.hys_meaning.specs.Unfolded.{named, named_below, named_items, behind, is_inequality};
+ghost use Rattle.hys_meaning.specs.Unfolded.{named, named_below, named_items, behind, guards, unfolded, is_inequality};
 ghost use Rattle.hys_meaning.specs.Typed.{IsOfKind, IsFormula, IsComparison, ItemTyped, is_comparison};
 ghost use Rattle.hys_type.specs.Faults.{first_fault};
+ghost use Rattle.hys_type.specs.Rules.{KeepsTyping};
 ghost use Rattle.hys_type.specs.Declarations.{constant_of_kind};
 ghost use Rattle.hys_type.specs.Checks.{fault_of, of_kind, expression, has_top, demanded, scoped, item_checks};
 ghost use Rattle.hys_type.specs.Walks.{walk};
@@ -85,4 +86,12 @@ pub fn item_rules()
 /// of its expressions fits.
 pub fn rules_hold()
     ensures { (s : Source) → IsReadSource s → (fault_of s ≡ None) ↔ (KeepsItsRules s × (first_unfit (folded s) ≡ None)) }
+{}
+
+/// A source that is read from a text has no fault exactly where its unfolded one keeps the rules of
+/// typing, at most 200 names are declared, and each number of its expressions fits. Its unnamed
+/// guards are so few that their numbers fit 64 bits, so that no two have the same name.
+pub fn typing_holds()
+    ensures { (s : Source) → IsReadSource s → 1 + length (guards s) < 2 ^ 64 →
+        (fault_of s ≡ None) ↔ (KeepsTyping (unfolded s) × (length s.decls ≤ 200) × (first_unfit (folded s) ≡ None)) }
 {}
