@@ -152,7 +152,7 @@ fn refusals(rt: HostRuntime) -> Result<(), Fail> {
         ),
         (
             "SYSTEM t { INTERFACE { STATE { REAL x [3, 2]; } } IMPLEMENTATION { CONTINUOUS { x = x; } } }",
-            "source refused: 19 not yet at 1:1\n",
+            "source refused: 11 empty bounds at 1:37: 3 2\n",
         ),
     ];
     let alloc = rt.alloc();
