@@ -7,7 +7,7 @@ const INTEGRATOR: &str =
     "SYSTEM s { INTERFACE { STATE { REAL x [0, 10]; } INPUT { REAL u [-1, 1]; } } IMPLEMENTATION { CONTINUOUS { x = x + u; } } }";
 
 const MATRIX: &[u8] =
-    b"{\"columns\":[{\"box\":[\"0\",\"10\"],\"kind\":\"real\",\"name\":\"x\",\"role\":\"state\"},{\"box\":[\"-1\",\"1\"],\"kind\":\"real\",\"name\":\"u\",\"role\":\"input\"}],\"format\":\"hysdel-mld\",\"next\":[{\"constant\":\"0\",\"terms\":[[0,\"1\"],[1,\"1\"]]}],\"outputs\":[],\"rows\":[],\"system\":\"s\",\"version\":1,\"weight\":2}\n";
+    b"{\"columns\":[{\"box\":[\"0\",\"10\"],\"kind\":\"real\",\"name\":\"x\",\"role\":\"state\"},{\"box\":[\"-1\",\"1\"],\"kind\":\"real\",\"name\":\"u\",\"role\":\"input\"}],\"format\":\"hysdel-mld\",\"next\":[{\"constant\":\"0\",\"terms\":[[0,\"1\"],[1,\"1\"]]}],\"outputs\":[],\"rows\":[],\"system\":\"s\",\"version\":2,\"weight\":2}\n";
 
 const UNENDED: &str =
     "SYSTEM s { INTERFACE { STATE { REAL x [0, 10]; } INPUT { REAL u [-1, 1]; } } IMPLEMENTATION { CONTINUOUS { x = x + u; } }";
@@ -239,7 +239,7 @@ fn next_values(rt: HostRuntime) -> Result<(), Fail> {
 #[test]
 fn sources(rt: HostRuntime) -> Result<(), Fail> {
     let empty =
-        "{\"columns\":[],\"format\":\"hysdel-mld\",\"next\":[],\"outputs\":[],\"rows\":[],\"system\":\"e\",\"version\":1,\"weight\":0}\n";
+        "{\"columns\":[],\"format\":\"hysdel-mld\",\"next\":[],\"outputs\":[],\"rows\":[],\"system\":\"e\",\"version\":2,\"weight\":0}\n";
     let turned =
         "\"columns\":[{\"box\":[\"3\",\"3\"],\"kind\":\"real\",\"name\":\"x\",\"role\":\"state\"},{\"box\":[\"-2\",\"-1\"],\"kind\":\"real\",\"name\":\"u\",\"role\":\"input\"},{\"box\":[\"0\",\"1\"],\"kind\":\"real\",\"name\":\"v\",\"role\":\"input\"}]";
     let rows = [

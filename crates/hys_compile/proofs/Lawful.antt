@@ -124,6 +124,7 @@ lawful s p ss us a b d each terms = record {
   outputs = λ k d l. absurd (omega arith);
   rows = λ k d l. absurd (omega arith);
   no_equation = λ k d l. absurd (omega arith);
+  labelled = refl;
   few_columns = let a = count ss us in let b = length-map ss boxed_of in let c = length-map us boxed_of in omega arith;
   few_rows = omega arith;
 }

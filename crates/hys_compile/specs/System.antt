@@ -19,5 +19,6 @@ system_of p = record {
   next = p.next;
   outputs = [];
   rows = [];
+  labels = [];
   weight = length p.states + length p.inputs;
 }

@@ -47,6 +47,7 @@ pub fn build(alloc: Global, parts: PlainParts) -> Result<System, AllocError>
         next,
         outputs: List::of(Vec::new(alloc)),
         rows: List::of(Vec::new(alloc)),
+        labels: List::of(Vec::new(alloc)),
         weight: weight as u32,
     })
 }

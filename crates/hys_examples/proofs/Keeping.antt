@@ -45,6 +45,7 @@ casting_lawful = record {
   outputs = All-from_recursion (λ (o : Output). AreTermsOver 3 o.form.terms) [] tt;
   rows = All-from_recursion (λ (r : Row). AreTermsOver 3 r.terms) casting_system.rows (record { rise = (three_not_zero, (omega arith, tt), (two_not_zero, tt, tt)); below = (omega arith, (omega arith, tt)) }, tt);
   no_equation = All-from_recursion (λ (r : Row). r.eq ≡ false) casting_system.rows (refl, tt);
+  labelled = refl;
   few_columns = omega arith;
   few_rows = omega arith;
 }
@@ -62,6 +63,7 @@ guarded_lawful = record {
     (record { rise = (one_not_zero, (omega arith, tt), (drop_not_zero, tt, tt)); below = (omega arith, (omega arith, tt)) }, tt),
   );
   no_equation = All-from_recursion (λ (r : Row). r.eq ≡ false) guarded_system.rows (refl, (refl, tt));
+  labelled = refl;
   few_columns = omega arith;
   few_rows = omega arith;
 }

@@ -32,6 +32,7 @@ casting_system = record {
   next = record { terms = term 0 (whole 1) ∷ term 1 (whole 3) ∷ term 2 (whole 2) ∷ []; constant = whole 0 } ∷ [];
   outputs = [];
   rows = at_most (term 1 (whole 3) ∷ term 2 (whole 2) ∷ []) (whole 4) ∷ [];
+  labels = codes "must 1:145" ∷ [];
   weight = 4;
 }
 
@@ -45,6 +46,7 @@ guarded_system = record {
   rows =
       at_most (term 0 (neg (whole 1)) ∷ term 1 (whole 5) ∷ []) (whole 0)
       ∷ at_most (term 0 (whole 1) ∷ term 1 (neg (make (pos 5001) 1000)) ∷ []) (make (pos 4999) 1000) ∷ [];
+  labels = codes "d" ∷ codes "d" ∷ [];
   weight = 2;
 }
 

@@ -1,11 +1,11 @@
 -- The text of a system has no float.
-use Rattle.std.proofs.Common.{◌≡◌, List, [], ◌∷◌, map, false, refl}
+use Rattle.std.proofs.Common.{◌≡◌, ℕ, List, [], ◌∷◌, map, false, refl}
 use Rattle.serde_json.specs.View.{items_of}
 use Rattle.serde_json.specs.Written.{has_float, items_have_float}
 use Rattle.hys_lin.specs.declared.form.Term.{Term}
 use Rattle.hys_lin.specs.declared.form.Affine.{Affine}
 use Rattle.hys_lin.specs.declared.form.Row.{Row}
-use Rattle.hys_sys.specs.Matrix.{column_data, term_data, next_data, output_data, row_data, matrix_data}
+use Rattle.hys_sys.specs.Matrix.{column_data, term_data, next_data, output_data, rows_data, matrix_data}
 use Rattle.hys_sys.specs.declared.system.Column.{Column}
 use Rattle.hys_sys.specs.declared.system.Output.{Output}
 use Rattle.hys_sys.specs.declared.system.System.{System}
@@ -26,9 +26,10 @@ outputs : (os : List Output) → items_have_float (items_of (map output_data os)
 outputs [] = refl
 outputs (o ∷ os) = rw (terms o.form.terms) (outputs os)
 
-rows : (rs : List Row) → items_have_float (items_of (map row_data rs)) ≡ false
-rows [] = refl
-rows (r ∷ rs) = rw (terms r.terms) (rows rs)
+rows : (ls : List (List ℕ)) (rs : List Row) → items_have_float (items_of (rows_data ls rs)) ≡ false
+rows ls [] = refl
+rows [] (r ∷ rs) = rw (terms r.terms) (rows [] rs)
+rows (l ∷ ls) (r ∷ rs) = rw (terms r.terms) (rows ls rs)
 
 pub no_float : (s : System) → has_float (matrix_data s) ≡ false
-no_float s = rw (columns s.columns, nexts s.next, outputs s.outputs, rows s.rows)
+no_float s = rw (columns s.columns, nexts s.next, outputs s.outputs, rows s.labels s.rows)

@@ -56,10 +56,18 @@ output_data o = object
     (member (codes "name") (string o.name)
     (member (codes "terms") (terms_data o.form.terms) no_members))))
 
-abbrev pub row_data : Row → Data
-row_data r = object
+-- a row, with the label of its item
+abbrev pub row_data : List ℕ → Row → Data
+row_data label r = object
     (member (codes "bound") (number_data r.bound)
-    (member (codes "terms") (terms_data r.terms) no_members))
+    (member (codes "item") (string label)
+    (member (codes "terms") (terms_data r.terms) no_members)))
+
+-- the rows with their labels; a row without one has the empty text
+abbrev pub rows_data : List (List ℕ) → List Row → List Data
+rows_data labels [] = []
+rows_data [] (r ∷ rs) = row_data [] r ∷ rows_data [] rs
+rows_data (l ∷ ls) (r ∷ rs) = row_data l r ∷ rows_data ls rs
 
 abbrev pub matrix_data : System → Data
 matrix_data s = object
@@ -67,9 +75,9 @@ matrix_data s = object
     (member (codes "format") (string (codes "hysdel-mld"))
     (member (codes "next") (array (items_of (map next_data s.next)))
     (member (codes "outputs") (array (items_of (map output_data s.outputs)))
-    (member (codes "rows") (array (items_of (map row_data s.rows)))
+    (member (codes "rows") (array (items_of (rows_data s.labels s.rows)))
     (member (codes "system") (string s.name)
-    (member (codes "version") (number (unsigned 1))
+    (member (codes "version") (number (unsigned 2))
     (member (codes "weight") (number (unsigned s.weight)) no_members))))))))
 
 -- one line of compact JSON

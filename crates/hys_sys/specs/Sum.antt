@@ -25,6 +25,7 @@ sum_system = record {
   next = record { terms = record { column = 0; factor = whole 1 } ∷ record { column = 1; factor = whole 1 } ∷ []; constant = whole 0 } ∷ [];
   outputs = [];
   rows = [];
+  labels = [];
   weight = 5;
 }
 

@@ -53,5 +53,6 @@ pub record IsSystem (s : System) : Type 0 where
   pub outputs : All (λ o. AreTermsOver (length s.columns) o.form.terms) s.outputs
   pub rows : All (λ r. AreTermsOver (length s.columns) r.terms) s.rows
   pub no_equation : All (λ r. r.eq ≡ false) s.rows
+  pub labelled : length s.labels ≡ length s.rows
   pub few_columns : length s.columns ≤ s.weight
   pub few_rows : length s.rows ≤ 5 * s.weight

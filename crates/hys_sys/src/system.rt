@@ -37,8 +37,9 @@ pub struct Output {
 /// A mixed logical dynamical system.
 ///
 /// The columns stand in the order of states, inputs, Boolean auxiliaries and real auxiliaries;
-/// `next` has the form of each state's next value. No row is an equation. The names of columns
-/// and outputs differ. There are at most `weight` columns and at most five times as many rows.
+/// `next` has the form of each state's next value. No row is an equation, and each has a label that
+/// tells which item it comes from and has no part in what the rows mean. The names of columns and
+/// outputs differ. There are at most `weight` columns and at most five times as many rows.
 /// The form is that of Bemporad and Morari, "Control of systems integrating logic, dynamics, and
 /// constraints", Automatica 35 (1999), with the rows over all columns at once.
 #[derive(Clone, Debug, PartialEq, Eq, Drop)]
@@ -48,5 +49,6 @@ pub struct System {
     pub next: List<Affine>,
     pub outputs: List<Output>,
     pub rows: List<Row>,
+    pub labels: List<Text>,
     pub weight: u32,
 }

@@ -1,9 +1,10 @@
 ghost use Rattle.std.specs.Prelude.{◌≡◌, map, IfOk};
 ghost use Rattle.serde_json.specs.View.{view};
 ghost use Rattle.serde_json.specs.Data.{Data};
-ghost use Rattle.hys_sys.specs.Matrix.{kind_word, role_word, column_data, term_data, next_data, output_data, row_data, matrix_data, matrix_text};
+ghost use Rattle.hys_sys.specs.Matrix.{kind_word, role_word, column_data, term_data, next_data, output_data, row_data, rows_data, matrix_data, matrix_text};
 
 use crate::system::{Column, ColumnRole, Kind2, Output, System};
+use hys_base::Text;
 use hys_lin::{Affine, Row, Term};
 use serde_json::{Value, json};
 use std::alloc::{AllocError, Global};
@@ -100,14 +101,28 @@ impl Part for Output {
     }
 }
 
-impl Part for Row {
-    ghost shown = { row_data };
+// The value of a row, with the label of its item.
+fn row_value(alloc: Global, label: &str, row: &Row) -> Result<Value, AllocError>
+    ensures { IfOk result (λ v. view v ≡ row_data label.now row.now) }
+{
+    let bound = row.bound.text(alloc)?;
+    let terms = values(alloc, row.terms.items())?;
+    json!(in alloc; {"bound": bound.as_str(), "item": label, "terms": terms})
+}
 
-    fn value(&self, alloc: Global) -> Result<Value, AllocError> {
-        let bound = self.bound.text(alloc)?;
-        let terms = values(alloc, self.terms.items())?;
-        json!(in alloc; {"bound": bound.as_str(), "terms": terms})
+// The values of rows in their order.
+fn row_values(alloc: Global, labels: &[Text], rows: &[Row]) -> Result<Vec<Value>, AllocError>
+    ensures { IfOk result (λ v. map view v.items ≡ rows_data labels.now rows.now) }
+{
+    let mut values = Vec::new(alloc);
+    for (i, row) in rows.iter().enumerate() {
+        let label = match labels.get(i) {
+            Some(label) => label.text(),
+            None => "",
+        };
+        values.push(row_value(alloc, label, row)?)?;
     }
+    Ok(values)
 }
 
 fn system_value(alloc: Global, system: &System) -> Result<Value, AllocError>
@@ -116,7 +131,7 @@ fn system_value(alloc: Global, system: &System) -> Result<Value, AllocError>
     let columns = values(alloc, system.columns.items())?;
     let next = values(alloc, system.next.items())?;
     let outputs = values(alloc, system.outputs.items())?;
-    let rows = values(alloc, system.rows.items())?;
+    let rows = row_values(alloc, system.labels.items(), system.rows.items())?;
     json!(in alloc; {
         "columns": columns,
         "format": "hysdel-mld",
@@ -124,13 +139,13 @@ fn system_value(alloc: Global, system: &System) -> Result<Value, AllocError>
         "outputs": outputs,
         "rows": rows,
         "system": system.name.text(),
-        "version": 1u32,
+        "version": 2u32,
         "weight": system.weight
     })
 }
 
-/// The matrix text of a system: one line of compact JSON with keys in byte order, numbers as
-/// strings, and each term as its column and its factor.
+/// The matrix text of a system, version 2: one line of compact JSON with keys in byte order, numbers
+/// as strings, each term as its column and its factor, and each row with its label under `item`.
 pub fn write_system(alloc: Global, system: &System) -> Result<Vec<u8>, AllocError>
     ensures { IfOk result (λ bytes. bytes.items ≡ matrix_text system.now) }
 {
