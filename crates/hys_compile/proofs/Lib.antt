@@ -45,6 +45,7 @@ pub mod Accepting
 pub mod Compiled
 pub mod Answered
 pub mod Weighing
+pub mod WrittenParts
 pub mod Readable
 pub mod PlainSums
 pub mod Usual

@@ -31,6 +31,9 @@ use Rattle.hys_type.specs.Declarations.{HasValueLiterals, HasBoundLiterals}
 use Rattle.hys_type.specs.Checks.{HaveShapeLiterals, HasItemLiterals, HasSourceLiterals}
 use Rattle.hys_compile.specs.Text.{IsMeasured}
 use Rattle.hys_type.specs.Declaring.{declares, IsDeclaration}
+use Rattle.hys_type.specs.Written.{IsReadDecl, IsReadItem}
+use Rattle.hys_type.specs.DeclarationKeeping.{IsReadSource}
+use Rattle.hys_compile.proofs.WrittenParts.{decl_written, item_written}
 
 -- ---- expressions
 read_literal : (text : List ℕ) → Valid (tree.Number text (record { byte = 0; line = 0; col = 0 })) → IsLiteral text
@@ -76,9 +79,10 @@ record Known (d : Decl) : Type 0 where
   values : HasValueLiterals d
   bounds : HasBoundLiterals d
   declaration : IsDeclaration d
+  written : IsReadDecl d
 
 known : (d : Decl) → Sound d → IsTrue (declares d.section) → Known d
-known d s h = let r : ReadDecl d = read_decl d s in record { values = r.values; bounds = r.bounds; declaration = r.declaration h }
+known d s h = let r : ReadDecl d = read_decl d s in record { values = r.values; bounds = r.bounds; declaration = r.declaration h; written = decl_written d s }
 
 -- ---- items
 choice_literals : (shape : Shape) → SoundChoice shape → HaveShapeLiterals shape
@@ -94,6 +98,13 @@ item_literals _ (formula {e = e} g n v) = literals e v
 item_literals _ (guard {shape = shape} n c) = guard_literals shape c
 item_literals _ (choice {shape = shape} n c) = choice_literals shape c
 item_literals _ (must {e = e} v) = literals e v
+
+record KnownItem (i : Item) : Type 0 where
+  literals : HasItemLiterals i
+  written : IsReadItem i
+
+known_item : (i : Item) → SoundItem i → KnownItem i
+known_item i s = record { literals = item_literals i s; written = item_written i s }
 
 -- ---- sections
 all_append : {X : Type 0} (Q : X → Type 0) (xs ys : List X) → AllByRecursion Q xs → AllByRecursion Q ys → AllByRecursion Q (xs ++ ys)
@@ -118,11 +129,13 @@ each P Q f (x ∷ xs) h = (f x h.0, each P Q f xs h.1)
 pub record IsReadable (s : Source) : Type 0 where
   pub literals : HasSourceLiterals s
   pub declarations : AllByRecursion IsDeclaration s.decls
+  pub written : IsReadSource s
 
-readable : (n : List ℕ) (ds : List Decl) (is : List Item) → AllByRecursion Known ds → AllByRecursion HasItemLiterals is → IsReadable (record { system = n; decls = ds; items = is })
+readable : (n : List ℕ) (ds : List Decl) (is : List Item) → AllByRecursion Known ds → AllByRecursion KnownItem is → IsReadable (record { system = n; decls = ds; items = is })
 readable n ds is h k = record {
-  literals = record { values = each Known HasValueLiterals (λ d r. r.values) ds h; bounds = each Known HasBoundLiterals (λ d r. r.bounds) ds h; items = k };
+  literals = record { values = each Known HasValueLiterals (λ d r. r.values) ds h; bounds = each Known HasBoundLiterals (λ d r. r.bounds) ds h; items = each KnownItem HasItemLiterals (λ i r. r.literals) is k };
   declarations = each Known IsDeclaration (λ d r. r.declaration) ds h;
+  written = record { decls = each Known IsReadDecl (λ d r. r.written) ds h; items = each KnownItem IsReadItem (λ i r. r.written) is k };
 }
 
 source_readable : (ts rest : List Lexeme) (t : Source) → DerivesSource ts rest t → Lawful ts → IsReadable t
@@ -131,7 +144,7 @@ source_readable _ rest _ (grammar.source {inputs = inputs} {rules = rules} {ds =
     let b : ImplementationRead [] es is (stop ∷ end ∷ rest) = implementation_read [] rules (stop ∷ end ∷ rest) es is behind a.lawful.1.1.1 in
     let first : AllByRecursion Known ds = in_blocks Sound Known decl_section Interface (λ s w d x e. known d x (subst (λ (z : Section). IsTrue (declares z)) (sym' e) (interface_declares s w))) [] ds (a.blocks [] (λ s y z. z)) in
     let second : AllByRecursion Known es = in_section Sound Known decl_section section.Aux (λ d x e. known d x (subst (λ (z : Section). IsTrue (declares z)) (sym' e) refl)) es b.aux in
-    let items : AllByRecursion HasItemLiterals is = in_blocks SoundItem HasItemLiterals item_at Rules (λ s w x y e. item_literals x y) [] is (b.blocks [] (λ s y z. z)) in
+    let items : AllByRecursion KnownItem is = in_blocks SoundItem KnownItem item_at Rules (λ s w x y e. known_item x y) [] is (b.blocks [] (λ s y z. z)) in
     readable l.text (ds ++ es) is (all_append Known ds es first second) items
   where
     sym' : {s t : Section} → s ≡ t → t ≡ s
@@ -158,8 +171,17 @@ cut_readable text tokens t c d = tree_readable text tokens t (λ k x h. token_sp
 pub measured_literals : (text : List ℕ) (tokens : List Token) (t : Source) → IsMeasured text tokens t → HasSourceLiterals t
 measured_literals text tokens t h = let r : IsReadable t = cut_readable text tokens t h.parsed.counted.lexed.cut h.parsed.derived in r.literals
 
+pub measured_declarations : (text : List ℕ) (tokens : List Token) (t : Source) → IsMeasured text tokens t → AllByRecursion IsDeclaration t.decls
+measured_declarations text tokens t h = let r : IsReadable t = cut_readable text tokens t h.parsed.counted.lexed.cut h.parsed.derived in r.declarations
+
 pub cut_literals : (text : List ℕ) (tokens : List Token) (t : Source) → Cut text tokens → IsTreeOf text tokens t → HasSourceLiterals t
 cut_literals text tokens t c d = let r : IsReadable t = cut_readable text tokens t c d in r.literals
 
 pub cut_declarations : (text : List ℕ) (tokens : List Token) (t : Source) → Cut text tokens → IsTreeOf text tokens t → AllByRecursion IsDeclaration t.decls
 cut_declarations text tokens t c d = let r : IsReadable t = cut_readable text tokens t c d in r.declarations
+
+pub cut_written : (text : List ℕ) (tokens : List Token) (t : Source) → Cut text tokens → IsTreeOf text tokens t → IsReadSource t
+cut_written text tokens t c d = let r : IsReadable t = cut_readable text tokens t c d in r.written
+
+pub measured_written : (text : List ℕ) (tokens : List Token) (t : Source) → IsMeasured text tokens t → IsReadSource t
+measured_written text tokens t h = let r : IsReadable t = cut_readable text tokens t h.parsed.counted.lexed.cut h.parsed.derived in r.written

@@ -10,6 +10,7 @@ ghost use Rattle.hys_ast.specs.Grammar.{IsTreeOf};
 ghost use Rattle.hys_ast.specs.Nodes.{nodes, total, expressions};
 ghost use Rattle.hys_meaning.specs.Accepted.{Accepted};
 ghost use Rattle.hys_type.specs.Checks.{fault_of, HasSourceLiterals};
+ghost use Rattle.hys_type.specs.DeclarationKeeping.{IsReadSource};
 ghost use Rattle.hys_type.specs.Declaring.{IsDeclaration};
 ghost use Rattle.hys_type.specs.Translation.{IsTranslation};
 ghost use Rattle.hys_prog.specs.Orders.{IsOrder};
@@ -43,12 +44,15 @@ pub fn exact_for_plain_source()
 {}
 
 /// Of a source that is read from a text each literal is read as what it is, and each declaration
-/// stands in a section of declarations and has a word as its name.
+/// stands in a section of declarations and has a word as its name. Its declarations and items stand as
+/// they are written: values at parameters, bounds at real states and inputs, left names but at demands.
 pub fn read_sources()
     ensures literals { (text : List ℕ) (tokens : List Token) (s : Source) → Cut text tokens → IsTreeOf text tokens s →
         HasSourceLiterals s }
     ensures declarations { (text : List ℕ) (tokens : List Token) (s : Source) → Cut text tokens → IsTreeOf text tokens s →
         AllByRecursion IsDeclaration s.decls }
+    ensures written { (text : List ℕ) (tokens : List Token) (s : Source) → Cut text tokens → IsTreeOf text tokens s →
+        IsReadSource s }
 {}
 
 /// In a plain source no check of typing fails, and it has no interval to find.

@@ -3,6 +3,8 @@
 ghost use Rattle.std.specs.Prelude.{◌≡◌, IfOk, IfErr};
 ghost use Rattle.hys_number.specs.Ops.{◌<ₙ◌, whole};
 ghost use Rattle.hys_ast.specs.Seen.{source_of};
+ghost use Rattle.hys_prog.specs.Programs.{IsProgram};
+ghost use Rattle.hys_type.specs.Translation.{IsTranslation};
 ghost use Rattle.hys_compile.specs.Faults.{shown};
 ghost use Rattle.hys_compile.specs.Text.{IsMeasured, IsTyped, IsRefusal};
 
@@ -55,7 +57,7 @@ fn show(fault: TypeFault) -> SourceFault
 }
 
 // Translates the tree to a program.
-#[tactic(auto, using(crate::proofs::Causes::by_typing, crate::proofs::Causes::passes_typing, crate::proofs::Readable::measured_literals))]
+#[tactic(auto, using(crate::proofs::Causes::by_typing, crate::proofs::Causes::passes_typing, crate::proofs::Readable::measured_literals, crate::proofs::Readable::measured_declarations, crate::proofs::Readable::measured_written))]
 pub fn translate(
     alloc: Global,
     text: &[u8],
@@ -66,6 +68,8 @@ pub fn translate(
     requires tolerance { whole 0 <ₙ tolerance }
     requires measured { IsMeasured text.now tokens.now (source_of source.now) }
     ensures ok { IfOk result (λ _. IsTyped text.now tokens.now (source_of source.now)) }
+    ensures translation { IfOk result (λ p. IsTranslation tolerance (source_of source.now) p) }
+    ensures program { IfOk result (λ p. IsProgram p) }
     ensures err { IfErr result (IsRefusal text.now) }
 {
     match program(alloc, source, tolerance) {

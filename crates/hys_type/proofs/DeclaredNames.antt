@@ -26,7 +26,7 @@ one_name ds d h = record {
   value = λ p. value_known ds d.name h;
 }
 
-each_name : (all ds : List Decl) → differ (declared_texts all) ≡ true → OneByOne (IsNameOf (parameters all)) ds (map (program_name (known all all)) ds)
+pub each_name : (all ds : List Decl) → differ (declared_texts all) ≡ true → OneByOne (IsNameOf (parameters all)) ds (map (program_name (known all all)) ds)
 each_name all [] h = tt
 each_name all (d ∷ ds) h = (one_name all d h, each_name all ds h)
 

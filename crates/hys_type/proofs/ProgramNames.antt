@@ -134,13 +134,20 @@ column_role section.Continuous h = absurd (cc)
 column_role section.OutputItem h = absurd (cc)
 column_role section.Must h = absurd (cc)
 
-pub columns_weigh : (u : Assignment) (ds : List Decl) (xs : List ProgName) → OneByOne (IsNameOf u) ds xs → AllByRecursion (Ruled u) ds → count_by (λ d. has_column d.section) ds ≡ names_weight xs
-columns_weigh u [] [] h r = refl
-columns_weigh u [] (x ∷ xs) h r = absurd h
-columns_weigh u (d ∷ ds) [] h r = absurd h
-columns_weigh u (d ∷ ds) (x ∷ xs) h r =
+pub columns_declared : (u : Assignment) (ds : List Decl) (xs : List ProgName) → OneByOne (IsNameOf u) ds xs → AllByRecursion (λ d. IsTrue (declares d.section)) ds → count_by (λ d. has_column d.section) ds ≡ names_weight xs
+columns_declared u [] [] h r = refl
+columns_declared u [] (x ∷ xs) h r = absurd h
+columns_declared u (d ∷ ds) [] h r = absurd h
+columns_declared u (d ∷ ds) (x ∷ xs) h r =
     sum_by-cons (λ (y : Decl). cond (has_column y.section) 1 0) d ds
-    ∙ ap₂ (λ (b : Bool) (n : ℕ). cond b 1 0 + n) (sym (ap program.has_column h.0.role ∙ column_role d.section r.0.declares)) (columns_weigh u ds xs h.1 r.1)
+    ∙ ap₂ (λ (b : Bool) (n : ℕ). cond b 1 0 + n) (sym (ap program.has_column h.0.role ∙ column_role d.section r.0)) (columns_declared u ds xs h.1 r.1)
+
+all_declare : (u : Assignment) (ds : List Decl) → AllByRecursion (Ruled u) ds → AllByRecursion (λ d. IsTrue (declares d.section)) ds
+all_declare u [] r = tt
+all_declare u (d ∷ ds) r = (r.0.declares, all_declare u ds r.1)
+
+pub columns_weigh : (u : Assignment) (ds : List Decl) (xs : List ProgName) → OneByOne (IsNameOf u) ds xs → AllByRecursion (Ruled u) ds → count_by (λ d. has_column d.section) ds ≡ names_weight xs
+columns_weigh u ds xs h r = columns_declared u ds xs h (all_declare u ds r)
 
 -- ---- what the rules say of each declaration
 pub all_ruled : (u : Assignment) (ds : List Decl) → AllByRecursion (λ d. IsTrue (has_box d) → IsBox u d.low d.high) ds → AllByRecursion (HasBit u) ds → AllByRecursion (λ d. IsTrue (declares d.section) × IsNameText d.name) ds → AllByRecursion (Ruled u) ds

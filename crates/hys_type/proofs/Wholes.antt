@@ -95,7 +95,7 @@ names_differ ds h = once_differs [] ds h
 abbrev one_name : Decl → Assignment → Name
 one_name d v = record { text = d.name; section = d.section; kind = d.kind; low = whole 0; high = whole 0; value = v d.name }
 
-seen_scope : (w : Assignment) (ks : List Known) (ds : List Decl) → known_values ks ≡ w → map seen (map (declared ks) ds) ≡ map unboxed (map (name_of w) ds)
+pub seen_scope : (w : Assignment) (ks : List Known) (ds : List Decl) → known_values ks ≡ w → map seen (map (declared ks) ds) ≡ map unboxed (map (name_of w) ds)
 seen_scope w ks [] h = refl
 seen_scope w ks (d ∷ ds) h = ap₂ (λ (n : Name) (ns : List Name). n ∷ ns) (ap (λ (v : Assignment). one_name d v) h) (seen_scope w ks ds h)
 

@@ -1,4 +1,5 @@
 pub mod Faults
+pub mod Guarding
 pub mod Sorts
 pub mod Constants
 pub mod Nodes
@@ -20,3 +21,4 @@ pub mod Begins
 pub mod TwoFaults
 pub mod Written
 pub mod DeclarationKeeping
+pub mod Added

@@ -1,17 +1,22 @@
 //! From a source to its program.
 
-ghost use Rattle.std.specs.Prelude.{◌≡◌, ◌+◌, ◌≤◌, length, map, IfOk};
+ghost use Rattle.std.specs.Prelude.{◌≡◌, ◌≤◌, ◌<◌, ◌^◌, ◌+◌, ◌-◌, ◌++◌, [], length, map, IfOk};
 ghost use Rattle.std.specs.List.{AllByRecursion, sum_by};
 ghost use Rattle.hys_number.specs.Ops.{◌<ₙ◌, whole};
 ghost use Rattle.hys_ast.specs.Seen.{decl_of, item_of, source_of};
 ghost use Rattle.hys_type.specs.Faults.{Answers};
 ghost use Rattle.hys_meaning.specs.Names.{parameters};
-ghost use Rattle.hys_meaning.specs.Weight.{item_weight};
-ghost use Rattle.hys_prog.specs.Programs.{names_weight};
-ghost use Rattle.hys_type.specs.Begins.{Begins};
-ghost use Rattle.hys_type.specs.Made.{AreDeclaredFirst, guard_program_name};
+ghost use Rattle.hys_meaning.specs.Unfolded.{unfolded};
+ghost use Rattle.hys_meaning.specs.Weight.{item_weight, weight};
+ghost use Rattle.hys_prog.specs.Programs.{IsProgram, names_weight};
+ghost use Rattle.hys_type.specs.Declaring.{IsDeclaration};
+ghost use Rattle.hys_type.specs.DeclarationKeeping.{IsReadSource};
+ghost use Rattle.hys_type.specs.Made.{AreDeclaredFirst, AreNamesOf};
+ghost use Rattle.hys_type.specs.Added.{IsAdded, AreAdded, lists};
+ghost use Rattle.hys_type.specs.Built.{setting_of};
 ghost use Rattle.hys_type.specs.Operands.{seen};
-ghost use Rattle.hys_type.specs.Translation.{place_if};
+ghost use Rattle.hys_type.specs.Translation.{place_if, IsTranslation};
+ghost use Rattle.hys_type.specs.Guarding.{name_of_guard, names_of_guards, items_of_guards};
 ghost use Rattle.hys_type.specs.Checks.{checks, HasItemLiterals, HasSourceLiterals};
 
 use crate::body::body_of;
@@ -30,7 +35,7 @@ use std::alloc::{AllocError, Global};
 
 // The name of an unnamed guard.
 fn guard_name(alloc: Global, number: usize, place: Place) -> Result<Name, AllocError>
-    ensures { IfOk result (λ n. n ≡ guard_program_name number place) }
+    ensures { IfOk result (λ n. n ≡ name_of_guard number place) }
 {
     Ok(Name {
         text: Text::of(format!(in alloc; "@{number}")?),
@@ -46,7 +51,7 @@ fn guard_name(alloc: Global, number: usize, place: Place) -> Result<Name, AllocE
 }
 
 // The guards that were found in an item, with their names.
-#[tactic(auto, using(crate::proofs::Beginnings::same_begins, crate::proofs::Beginnings::one_begins))]
+#[tactic(auto, using(crate::proofs::Guarding::guard_named, crate::proofs::Guarding::guard_put, crate::proofs::Guarding::none_named, crate::proofs::Guarding::none_put))]
 fn push_guards(
     alloc: Global,
     declared: usize,
@@ -56,8 +61,10 @@ fn push_guards(
     guards: Vec<Guard>,
 ) -> Result<(), TypeFault>
     requires { declared ≤ length names.old.items }
-    ensures enough { IfOk result (λ _. declared ≤ length names.new.items) }
-    ensures names { IfOk result (λ _. Begins names.old.items names.new.items) }
+    ensures names { IfOk result (λ _. names.new.items
+        ≡ names.old.items ++ names_of_guards (length names.old.items - declared + 1) guards.items) }
+    ensures items { IfOk result (λ _. items.new.items
+        ≡ items.old.items ++ items_of_guards (length names.old.items) eps guards.items) }
 {
     for guard in guards {
         items.push(ProgItem {
@@ -76,7 +83,7 @@ fn push_guards(
 
 // The place of the left name.
 fn left_place(scope: &[Declared], left: &Option<Text>) -> Result<Option<NameId>, TypeFault>
-    ensures { IfOk result (λ o. o ≡ place_if (map seen scope.now) left.now) }
+    ensures { IfOk result (λ k. k ≡ place_if (map seen scope.now) left.now) }
 {
     match left {
         None => Ok(None),
@@ -85,6 +92,7 @@ fn left_place(scope: &[Declared], left: &Option<Text>) -> Result<Option<NameId>,
 }
 
 // An item behind the guards that stand in it.
+#[tactic(auto, using(crate::proofs::Additions::item_added))]
 fn push_item(
     alloc: Global,
     scope: &[Declared],
@@ -96,8 +104,8 @@ fn push_item(
 ) -> Result<(), TypeFault>
     requires literals { HasItemLiterals (item_of item.now) }
     requires names { length scope.now ≤ length names.old.items }
-    ensures enough { IfOk result (λ _. length scope.now ≤ length names.new.items) }
-    ensures names { IfOk result (λ _. Begins names.old.items names.new.items) }
+    ensures { IfOk result (λ _. IsAdded (setting_of (map seen scope.now) known.now eps) (item_of item.now)
+        (lists names.old.items items.old.items) (lists names.new.items items.new.items)) }
 {
     let mut guards = Vec::new(alloc);
     let body = body_of(alloc, scope, known, eps, names.len(), &mut guards, item)?;
@@ -110,7 +118,7 @@ fn push_item(
     Ok(())
 }
 
-#[tactic(auto, using(crate::proofs::Beginnings::same_begins, crate::proofs::Beginnings::both_begin))]
+#[tactic(auto, using(crate::proofs::Additions::added_here, crate::proofs::Additions::added_end, crate::proofs::Additions::still_enough))]
 fn program_items(
     alloc: Global,
     scope: &[Declared],
@@ -121,7 +129,8 @@ fn program_items(
 ) -> Result<Vec<ProgItem>, TypeFault>
     requires literals { AllByRecursion HasItemLiterals (map item_of items.now) }
     requires names { length scope.now ≤ length names.old.items }
-    ensures { IfOk result (λ _. Begins names.old.items names.new.items) }
+    ensures { IfOk result (λ is. AreAdded (setting_of (map seen scope.now) known.now eps) (map item_of items.now)
+        (lists names.old.items []) (lists names.new.items is.items)) }
 {
     let mut made = Vec::new(alloc);
     for item in items {
@@ -134,8 +143,10 @@ fn assemble(alloc: Global, source: &Source, eps: Frac, judged: Judged) -> Result
     requires literals { AllByRecursion HasItemLiterals (map item_of source.now.items) }
     requires names { length judged.scope.items ≤ length judged.names.items }
     ensures system { IfOk result (λ p. p.system ≡ source.now.system) }
-    ensures names { IfOk result (λ p. Begins judged.names.items p.names) }
+    ensures items { IfOk result (λ p. AreAdded (setting_of (map seen judged.scope.items) judged.known.items eps)
+        (map item_of source.now.items) (lists judged.names.items []) (lists p.names p.items)) }
     ensures weight { IfOk result (λ p. p.weight ≡ names_weight p.names + sum_by item_weight (map item_of source.now.items)) }
+    ensures few { IfOk result (λ p. length p.names < 2 ^ 63) }
 {
     let Judged {
         known,
@@ -152,14 +163,22 @@ fn assemble(alloc: Global, source: &Source, eps: Frac, judged: Judged) -> Result
     })
 }
 
-/// The program of a source, or the fault of its first check that fails.
+/// The program of a source, or the fault of its first check that fails. Its names are those of the declarations, and
+/// behind them those of the unnamed guards in the order of their numbers. The program is the translation of the source,
+/// and keeps the rules of programs where the source is one that is read from a text.
 pub fn program(alloc: Global, source: &Source, eps: Frac) -> Result<Program, TypeFault>
     requires eps { whole 0 <ₙ eps }
     requires literals { HasSourceLiterals (source_of source.now) }
+    requires declarations { AllByRecursion IsDeclaration (source_of source.now).decls }
     ensures fault { Answers result (checks (source_of source.now)) }
     ensures system { IfOk result (λ p. p.system ≡ source.now.system) }
     ensures weight { IfOk result (λ p. p.weight ≡ names_weight p.names + sum_by item_weight (map item_of source.now.items)) }
-    ensures names { IfOk result (λ p. AreDeclaredFirst (parameters (map decl_of source.now.decls)) (map decl_of source.now.decls) p.names) }
+    ensures source_weight { IfOk result (λ p. p.weight ≡ weight (source_of source.now)) }
+    ensures names { IfOk result (λ p. AreDeclaredFirst (parameters (map decl_of source.now.decls))
+        (map decl_of source.now.decls) p.names) }
+    ensures all_names { IfOk result (λ p. AreNamesOf (unfolded (source_of source.now)) p.names) }
+    ensures translation { IfOk result (λ p. IsTranslation eps (source_of source.now) p) }
+    ensures program { IfOk result (λ p. IsReadSource (source_of source.now) → IsProgram p) }
 {
     let judged = judge_parts(alloc, source.decls.items(), source.items.items())?;
     match assemble(alloc, source, eps, judged) {

@@ -1,4 +1,4 @@
-use Rattle.hys_compile.proofs.Readable.{cut_literals, cut_declarations}
+use Rattle.hys_compile.proofs.Readable.{cut_literals, cut_declarations, cut_written}
 use Rattle.hys_compile.proofs.laws.read_sources.Goals as goal
 
 pub returns-clause-literals : goal.returns-clause-literals
@@ -6,3 +6,6 @@ returns-clause-literals c = cut_literals
 
 pub returns-clause-declarations : goal.returns-clause-declarations
 returns-clause-declarations c = cut_declarations
+
+pub returns-clause-written : goal.returns-clause-written
+returns-clause-written c = cut_written
