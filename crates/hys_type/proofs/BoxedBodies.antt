@@ -1,5 +1,5 @@
 -- The boxes of names don't matter to what is built.
-use Rattle.std.proofs.Common.{◌≡◌, ℕ, suc, ◌+◌, List, [], ◌∷◌, Option, Some, None, cond, map, length, refl, sym, ◌∙◌, ap, ap₂, subst}
+use Rattle.std.proofs.Common.{◌≡◌, ℕ, suc, ◌+◌, List, [], ◌∷◌, Option, Some, None, cond, map, length, refl, ◌∙◌, ap, ap₂, subst}
 use Rattle.std.specs.Str.{bytes_eq}
 use Rattle.std.proofs.lemmas.List.{length-map}
 use Rattle.hys_number.specs.Number.{Number}
@@ -13,7 +13,7 @@ use Rattle.hys_ast.specs.Tree.{Tree}
 use Rattle.hys_ast.specs.Tree as tree
 use Rattle.hys_meaning.specs.Values.{Assignment}
 use Rattle.hys_meaning.specs.Names.{Name, look, is_parameter}
-use Rattle.hys_meaning.specs.Forms.{Form, form, combined, guard_form, guard_between}
+use Rattle.hys_meaning.specs.Forms.{Form, combined, guard_form, guard_between}
 use Rattle.hys_meaning.specs.Bodies as said
 use Rattle.hys_meaning.specs.Unfolded.{is_inequality}
 use Rattle.hys_formula.specs.Formulas.{constant, named}

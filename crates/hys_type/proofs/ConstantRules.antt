@@ -1,11 +1,10 @@
 -- The checks of a constant expression pass exactly where it is of a kind over the parameters, and its numbers fit.
-use Rattle.std.proofs.Common.{◌≡◌, ℕ, List, [], ◌∷◌, ◌++◌, Option, Some, None, Bool, true, false, ◌&&◌, not, cond, map, refl, sym, ◌∙◌, ap, ap₂, subst, subst₂, ◌⊎◌, inl, inr, ◌≢◌}
+use Rattle.std.proofs.Common.{◌≡◌, ℕ, List, [], ◌∷◌, ◌++◌, Option, Some, None, Bool, true, false, ◌&&◌, not, refl, sym, ◌∙◌, ap, ap₂, subst, subst₂, ◌⊎◌, inl, inr}
 use Rattle.std.specs.Prelude.{IsTrue}
-use Rattle.std.specs.List.{AllByRecursion}
 use Rattle.hys_number.specs.Number.{Number, make}
 use Rattle.hys_number.specs.Gcd.{gcd}
-use Rattle.hys_number.specs.Ops.{◌+ₙ◌, ◌*ₙ◌, ◌-ₙ◌, ◌/ₙ◌, neg, inverse, whole, fits}
-use Rattle.hys_number.proofs.Ring.{by_ring, v, k, minus, ◌⊕◌, ◌⊗◌, ◌⊖◌}
+use Rattle.hys_number.specs.Ops.{◌+ₙ◌, ◌*ₙ◌, ◌-ₙ◌, ◌/ₙ◌, inverse, whole, fits}
+use Rattle.hys_number.proofs.Ring.{by_ring, v, k, ◌⊕◌, ◌⊗◌, ◌⊖◌}
 use Rattle.hys_lin.specs.declared.lost.Lost.{Lost}
 use Rattle.hys_lin.specs.Operations.{outcome, plus, minus as difference, times}
 use Rattle.hys_ast.specs.declared.place.Place.{Place}
@@ -22,16 +21,16 @@ use Rattle.hys_ast.specs.Tree as tree
 use Rattle.hys_meaning.specs.Values.{value, signed, computed}
 use Rattle.hys_meaning.specs.Names.{Name, look, is_parameter, is_output}
 use Rattle.hys_meaning.specs.Forms.{Form, IsConstant, looked_up, parameter_or, combined, form, Folds}
-use Rattle.hys_meaning.specs.Folding.{Computed, result, all_at, is_zero, is_constant, each, over, multiplied, folding, numbers_of}
+use Rattle.hys_meaning.specs.Folding.{all_at, is_constant, each, over, multiplied, folding, numbers_of}
 use Rattle.hys_meaning.specs.Typed.{IsReal, IsFormula, may_stand, is_connective}
 use Rattle.hys_meaning.specs.Typed as typed
-use Rattle.hys_type.specs.Sorts.{Sort, Real, Bool', Neither, sort_of_kind, sort_of_unary, sort_of_binary, is_real, is_bool, takes_unary}
-use Rattle.hys_type.specs.Faults.{Check, check, in_range}
+use Rattle.hys_type.specs.Sorts.{Sort, Real, Bool', Neither, sort_of_kind, sort_of_unary, is_real, is_bool, takes_unary}
+use Rattle.hys_type.specs.Faults.{Check, in_range}
 use Rattle.hys_type.specs.Constants.{find_known, known_value, known_values, number_or_zero, has_number, is_bool_kind, sort_of_known, known_sort, may_be_cast, takes_constants, divisor_checks, operation, operator_checks, name_checks, constant_checks}
 use Rattle.hys_type.specs.Constants as constants
 use Rattle.hys_type.specs.declared.constant.Known.{Known}
 use Rattle.hys_type.specs.Written.{KnownAs, AreKnown, AreAmong}
-use Rattle.hys_type.proofs.Passing.{all_join, all_front, all_behind, Pass, pass_join, pass_front, pass_behind, Fit, range_fit, fit_range}
+use Rattle.hys_type.proofs.Passing.{all_join, all_front, all_behind, Pass, pass_join, pass_front, pass_behind, Fit}
 use Rattle.hys_type.proofs.Linear.{signed_zero, combined_zero, is_arithmetic, is_constant_of, not_zero, is_not_zero}
 use Rattle.hys_type.proofs.NodeRules.{both_real, both_bool}
 

@@ -1,10 +1,9 @@
 -- The checks of declarations pass exactly where these keep their rules and their numbers fit.
-use Rattle.std.proofs.Common.{◌≡◌, List, [], ◌∷◌, ◌++◌, map, flat_map, ◌↔◌}
+use Rattle.std.proofs.Common.{List, [], ◌++◌, flat_map, ◌↔◌}
 use Rattle.std.specs.List.{AllByRecursion}
 use Rattle.hys_ast.specs.Tree.{Decl}
-use Rattle.hys_meaning.specs.Names.{name_of, parameters}
-use Rattle.hys_meaning.specs.Folding.{numbers_of, value_of, bounds_of}
-use Rattle.hys_type.specs.Declarations.{name_checks, value_checks, box_checks, known}
+use Rattle.hys_meaning.specs.Folding.{value_of, bounds_of}
+use Rattle.hys_type.specs.Declarations.{name_checks, value_checks}
 use Rattle.hys_type.specs.Walks.{walk}
 use Rattle.hys_type.specs.DeclarationKeeping.{declared_names, declaration_checks, KeepDeclarations}
 use Rattle.hys_type.specs.Written.{IsReadDecl}

@@ -1,15 +1,14 @@
 -- The checks of declared names pass exactly where they differ and aren't too many.
-use Rattle.std.proofs.Common.{◌≡◌, ℕ, zero, suc, ◌+◌, ◌≤◌, ◌<◌, List, [], ◌∷◌, ◌++◌, Bool, true, false, ◌||◌, ◌&&◌, not, map, length, nat_lt, refl, sym, ◌∙◌, ap, ap₂, arith, ◌↔◌}
+use Rattle.std.proofs.Common.{◌≡◌, ℕ, ◌+◌, ◌≤◌, ◌<◌, List, [], ◌∷◌, ◌++◌, Bool, true, false, ◌||◌, ◌&&◌, not, length, nat_lt, refl, ◌∙◌, ap, ap₂, arith, ◌↔◌}
 use Rattle.std.specs.Prelude.{IsTrue}
 use Rattle.std.specs.Str.{bytes_eq}
 use Rattle.std.specs.List.{AllByRecursion, list_any}
 use Rattle.std.proofs.lemmas.List.{length-append}
 use Rattle.hys_ast.specs.Tree.{Decl}
 use Rattle.hys_meaning.specs.Typed.{differ}
-use Rattle.hys_type.specs.Faults.{Check}
 use Rattle.hys_type.specs.Declarations.{name_checks}
 use Rattle.hys_type.specs.Walks.{walk}
-use Rattle.hys_type.proofs.KnownValues.{same_text, own_text, other_text, declared_texts}
+use Rattle.hys_type.proofs.KnownValues.{same_text, own_text, declared_texts}
 use Rattle.hys_type.proofs.Passing.{Pass, EachPasses, walk_passes, passes_walk}
 
 -- ---- a text among others

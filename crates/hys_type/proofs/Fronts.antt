@@ -10,7 +10,7 @@ use Rattle.hys_lin.specs.declared.form.Term.{Term}
 use Rattle.hys_lin.specs.Sums.{EachColumn}
 use Rattle.hys_lin.proofs.Lists.{each_more}
 use Rattle.hys_meaning.specs.Names.{Name, look}
-use Rattle.hys_meaning.specs.Forms.{Form, form, combined, guard_form, guard_between}
+use Rattle.hys_meaning.specs.Forms.{Form, form, guard_form, guard_between}
 use Rattle.hys_ast.specs.declared.tree.BinaryOp.{BinaryOp}
 use Rattle.hys_ast.specs.declared.tree.BinaryOp.TheVariants as binary
 use Rattle.hys_ast.specs.Tree.{Tree}

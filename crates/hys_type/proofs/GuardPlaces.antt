@@ -5,7 +5,7 @@ use Rattle.hys_lin.specs.Bits.{is_one}
 use Rattle.hys_meaning.specs.Values.{Assignment}
 use Rattle.hys_meaning.specs.Names.{Name, name_of, look, is_parameter}
 use Rattle.hys_meaning.specs.Unfolded.{Guard, guard_name, guard_decl}
-use Rattle.hys_formula.specs.Formulas.{FormulaTree, constant, named}
+use Rattle.hys_formula.specs.Formulas.{constant, named}
 use Rattle.hys_type.specs.Translation.{place_in, name_formula}
 use Rattle.hys_type.proofs.KnownValues.{own_text}
 use Rattle.hys_type.proofs.Fronts.{AreNew}

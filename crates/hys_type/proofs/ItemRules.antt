@@ -1,25 +1,22 @@
 -- The checks of items pass exactly where each is typed once its guards have names, none defines a name twice, and the
 -- numbers fit.
-use Rattle.std.proofs.Common.{◌≡◌, ℕ, List, [], ◌∷◌, ◌++◌, Option, Some, None, Bool, true, false, not, cond, map, flat_map, refl, sym, ◌∙◌, ap, subst, ◌↔◌}
+use Rattle.std.proofs.Common.{◌≡◌, ℕ, List, [], ◌∷◌, ◌++◌, Option, Some, None, Bool, true, false, not, map, flat_map, refl, sym, ◌∙◌, ap, subst, ◌↔◌}
 use Rattle.std.specs.Prelude.{IsTrue}
 use Rattle.std.specs.List.{AllByRecursion, list_any}
 use Rattle.hys_ast.specs.declared.source.Section.{Section}
 use Rattle.hys_ast.specs.declared.source.Section.TheVariants as section
-use Rattle.hys_ast.specs.Tree.{Tree, Item}
+use Rattle.hys_ast.specs.Tree.{Item}
 use Rattle.hys_ast.specs.Nodes.{shape_expressions, items_expressions}
 use Rattle.hys_meaning.specs.Names.{Name, look}
 use Rattle.hys_meaning.specs.Bodies.{body, body_in}
-use Rattle.hys_meaning.specs.Folding.{numbers_of}
 use Rattle.hys_meaning.specs.Unfolded.{Guard, Naming, guard_item, named_shape, named_item, named_items, behind}
 use Rattle.hys_meaning.specs.Typed.{suits, defines, is_demand, LeftTyped, RightTyped, ItemTyped, left}
-use Rattle.hys_type.specs.Faults.{Check, check}
 use Rattle.hys_type.specs.Nodes.{is_declared}
 use Rattle.hys_type.specs.Declarations.{if_some}
 use Rattle.hys_type.specs.Walks.{walk}
 use Rattle.hys_type.specs.Checks.{scoped, left_checks, left_name, right_checks, item_checks}
-use Rattle.hys_type.specs.Written.{IsNoGuard, NamesNoGuard, AreNamed, Compare, GoTogether, IsReadItem, IsFirst, NeverTwice}
+use Rattle.hys_type.specs.Written.{IsNoGuard, AreNamed, Compare, GoTogether, IsReadItem, IsFirst, NeverTwice}
 use Rattle.hys_type.specs.declared.constant.Known.{Known}
-use Rattle.hys_type.specs.declared.fault.TypeFault.TheVariants as fault
 use Rattle.hys_type.proofs.Passing.{all_join, all_front, all_behind, Pass, pass_join, pass_front, pass_behind, EachPasses, walk_passes, passes_walk}
 use Rattle.hys_type.proofs.ValueRules.{FitOf, fit_of_join, fit_of_split}
 use Rattle.hys_type.proofs.RightRules.{right_rule}

@@ -84,3 +84,4 @@ pub mod GuardCounts
 pub mod GuardPlaces
 pub mod TypingRules
 pub mod RulesKept
+pub mod Zeros

@@ -18,7 +18,6 @@ use Rattle.hys_meaning.specs.Values.{signed}
 use Rattle.hys_meaning.specs.Names.{Name, look, is_parameter}
 use Rattle.hys_meaning.specs.Forms.{Form, IsConstant, looked_up, parameter_or, combined, form, Folds}
 use Rattle.hys_meaning.specs.Folding.{is_zero, is_constant}
-use Rattle.hys_type.specs.Faults.{Check}
 use Rattle.hys_type.specs.Nodes.{linear_checks}
 use Rattle.hys_type.proofs.KnownValues.{same_text}
 use Rattle.hys_type.proofs.Agree.{found_name}

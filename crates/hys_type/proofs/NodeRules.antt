@@ -1,8 +1,7 @@
 -- The checks of an expression pass exactly where it has a kind once its guards have names, each of its guards compares
 -- two real expressions, and its numbers fit.
-use Rattle.std.proofs.Common.{◌≡◌, ℕ, List, [], ◌∷◌, ◌++◌, Option, Some, None, Bool, true, false, ◌&&◌, not, cond, refl, sym, ◌∙◌, ap, ap₂, subst, subst₂, ◌⊎◌, inl, inr}
+use Rattle.std.proofs.Common.{◌≡◌, ℕ, List, ◌++◌, Option, Some, None, Bool, true, false, ◌&&◌, not, refl, sym, ◌∙◌, ap, ap₂, subst, subst₂, ◌⊎◌, inl, inr}
 use Rattle.std.specs.Prelude.{IsTrue}
-use Rattle.std.specs.List.{AllByRecursion}
 use Rattle.hys_lin.specs.declared.lost.Lost.{Lost}
 use Rattle.hys_ast.specs.declared.place.Place.{Place}
 use Rattle.hys_ast.specs.declared.tree.UnaryOp.{UnaryOp}
@@ -18,18 +17,18 @@ use Rattle.hys_ast.specs.Tree as tree
 use Rattle.hys_meaning.specs.Values.{signed}
 use Rattle.hys_meaning.specs.Names.{Name, look, is_output, is_auxiliary}
 use Rattle.hys_meaning.specs.Forms.{Form, combined, form, Folds, looked_up}
-use Rattle.hys_meaning.specs.Folding.{Computed, result, all_at, folding, numbers_of}
+use Rattle.hys_meaning.specs.Folding.{all_at, folding, numbers_of}
 use Rattle.hys_meaning.specs.Unfolded.{Guard, guard_name, named, is_inequality}
 use Rattle.hys_meaning.specs.Typed.{IsReal, IsFormula, IsComparison, may_stand, suits, is_sign, is_negation, is_connective}
 use Rattle.hys_meaning.specs.Typed as typed
 use Rattle.hys_type.specs.Sorts.{Sort, Real, Bool', Neither, sort_of_kind, sort_of_unary, is_real, is_bool, takes_unary}
 use Rattle.hys_type.specs.Constants.{is_bool_kind}
-use Rattle.hys_type.specs.Faults.{Check, check, in_range}
+use Rattle.hys_type.specs.Faults.{in_range}
 use Rattle.hys_type.specs.Nodes.{name_checks, may_be_cast, sort_of_name, sort, takes_binary, linear_checks, operator_checks, node_checks}
 use Rattle.hys_type.specs.Nodes as nodes
-use Rattle.hys_type.specs.Written.{IsNoGuard, NamesNoGuard, SameNames, AreNamed, Compare}
+use Rattle.hys_type.specs.Written.{NamesNoGuard, SameNames, AreNamed, Compare}
 use Rattle.hys_type.proofs.Passing.{all_join, all_front, all_behind, Pass, pass_join, pass_front, pass_behind, Fit, range_fit, fit_range}
-use Rattle.hys_type.proofs.Linear.{Outside, outside, is_arithmetic, linear_folds, folds_linear}
+use Rattle.hys_type.proofs.Linear.{outside, is_arithmetic, linear_folds, folds_linear}
 
 -- ---- kinds of expressions
 abbrev pub is_equality : BinaryOp → Bool

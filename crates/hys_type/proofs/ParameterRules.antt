@@ -1,30 +1,19 @@
 -- The checks of the values of parameters pass exactly where each has a value of its kind and the numbers fit.
-use Rattle.std.proofs.Common.{◌≡◌, ℕ, List, [], ◌∷◌, ◌++◌, Option, Some, None, Bool, true, false, ◌&&◌, not, cond, map, flat_map, filter, refl, sym, ◌∙◌, ap, ap₂, subst, subst₂, append_assoc, ◌↔◌}
+use Rattle.std.proofs.Common.{◌≡◌, ℕ, List, [], ◌∷◌, ◌++◌, Option, Some, None, Bool, true, false, cond, map, refl, sym, ◌∙◌, ap, subst, subst₂}
 use Rattle.std.specs.Prelude.{IsTrue}
 use Rattle.std.specs.Str.{bytes_eq}
-use Rattle.std.specs.List.{AllByRecursion}
 use Rattle.std.proofs.lemmas.List.{append-nil}
 use Rattle.hys_number.specs.Number.{Number}
-use Rattle.hys_number.specs.Ops.{whole}
 use Rattle.hys_base.specs.Differ.{Apart, Differ}
-use Rattle.hys_ast.specs.declared.source.Kind.{Kind}
 use Rattle.hys_ast.specs.Tree.{Tree, Decl}
-use Rattle.hys_ast.specs.Nodes.{if_any}
 use Rattle.hys_meaning.specs.Values.{Assignment, given}
-use Rattle.hys_meaning.specs.Names.{Name, name_of, look, is_parameter, parameters, valued, with_value, set_to}
-use Rattle.hys_meaning.specs.Folding.{Computed, numbers_of, value_of}
-use Rattle.hys_meaning.specs.Typed.{differ, only_parameters, IsMaybe, IsOfKind, ValuesTyped, has_value}
-use Rattle.hys_type.specs.Faults.{Check}
-use Rattle.hys_type.specs.Constants.{find_known, known_values, number_or_zero, has_number}
-use Rattle.hys_type.specs.Declarations.{other, others, given_value, with_parameter, with_parameters, known, is_given, parameter_checks, value_checks, constant_of_kind}
-use Rattle.hys_type.specs.Walks.{walk}
+use Rattle.hys_meaning.specs.Names.{Name, name_of, look, is_parameter, valued, with_value}
+use Rattle.hys_meaning.specs.Typed.{only_parameters, has_value}
+use Rattle.hys_type.specs.Constants.{find_known, known_values}
+use Rattle.hys_type.specs.Declarations.{given_value, with_parameter}
 use Rattle.hys_type.specs.Written.{KnownAs, AreKnown, AreAmong}
 use Rattle.hys_type.specs.declared.constant.Known.{Known}
-use Rattle.hys_type.proofs.KnownValues.{same_text, own_text, other_text, declared_texts, differ_texts, or_else, find_last, Fresh, fresh_others, fresh_more, one_more, others_zero}
-use Rattle.hys_type.proofs.Knowing.{with_last}
-use Rattle.hys_type.proofs.Passing.{all_join, all_front, all_behind, Pass, EachPasses, walk_passes, passes_walk, Fit}
-use Rattle.hys_type.proofs.PlaceRules.{constant_rule}
-use Rattle.std.proofs.Math.Path.{fun_ext}
+use Rattle.hys_type.proofs.KnownValues.{same_text, own_text, other_text, declared_texts, or_else, find_last, Fresh, fresh_more, one_more}
 
 -- ---- names before others
 pub look_front : (ns ms : List Name) (n : List ℕ) (m : Name) → look ns n ≡ Some m → look (ns ++ ms) n ≡ Some m

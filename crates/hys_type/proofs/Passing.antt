@@ -1,10 +1,9 @@
 -- Checks that all pass, and numbers that all fit.
-use Rattle.std.proofs.Common.{◌≡◌, ℕ, List, [], ◌∷◌, ◌++◌, Option, Some, None, Bool, true, false, cond, map, refl}
+use Rattle.std.proofs.Common.{◌≡◌, List, [], ◌∷◌, ◌++◌, Some, None, Bool, true, false, cond, refl}
 use Rattle.std.specs.Prelude.{IsTrue}
 use Rattle.std.specs.List.{AllByRecursion}
 use Rattle.hys_number.specs.Ops.{fits}
 use Rattle.hys_lin.specs.declared.lost.Lost.{Lost}
-use Rattle.hys_lin.specs.Operations.{outcome}
 use Rattle.hys_ast.specs.declared.place.Place.{Place}
 use Rattle.hys_meaning.specs.Folding.{Computed, result, all_at, first_unfit}
 use Rattle.hys_type.specs.Faults.{Check, first_fault, in_range}

@@ -1,8 +1,6 @@
 -- The checks of an expression in its place pass exactly where it is what its place wants.
-use Rattle.std.proofs.Common.{◌≡◌, ℕ, List, [], ◌∷◌, ◌++◌, Option, Some, None, Bool, true, false, ◌&&◌, not, cond, refl, sym, ◌∙◌, ap, ap₂, subst, subst₂, ◌⊎◌, inl, inr, ◌↔◌}
+use Rattle.std.proofs.Common.{◌≡◌, ℕ, List, [], ◌∷◌, ◌++◌, Bool, true, false, ◌&&◌, cond, refl, sym, ◌∙◌, ap, subst, ◌⊎◌, inl, inr, ◌↔◌}
 use Rattle.std.specs.Prelude.{IsTrue}
-use Rattle.std.specs.List.{AllByRecursion}
-use Rattle.hys_lin.specs.declared.lost.Lost.{Lost}
 use Rattle.hys_ast.specs.declared.place.Place.{Place}
 use Rattle.hys_ast.specs.declared.source.Kind.{Kind}
 use Rattle.hys_ast.specs.declared.source.Kind.TheVariants as kind
@@ -12,11 +10,11 @@ use Rattle.hys_ast.specs.Tree.{Tree}
 use Rattle.hys_ast.specs.Tree as tree
 use Rattle.hys_meaning.specs.Names.{Name}
 use Rattle.hys_meaning.specs.Forms.{form}
-use Rattle.hys_meaning.specs.Folding.{first_unfit, numbers_of, folding, all_at}
+use Rattle.hys_meaning.specs.Folding.{numbers_of}
 use Rattle.hys_meaning.specs.Unfolded.{named, named_below, is_inequality}
-use Rattle.hys_meaning.specs.Typed.{IsReal, IsFormula, IsOfKind, IsComparison, is_comparison}
-use Rattle.hys_type.specs.Sorts.{Sort, Real, Bool', Neither, is_real, is_bool}
-use Rattle.hys_type.specs.Faults.{Check, check, first_fault}
+use Rattle.hys_meaning.specs.Typed.{IsFormula, IsOfKind, IsComparison, is_comparison}
+use Rattle.hys_type.specs.Sorts.{Sort, Real, Bool', is_real, is_bool}
+use Rattle.hys_type.specs.Faults.{check}
 use Rattle.hys_type.specs.Constants.{known_sort, constant_checks}
 use Rattle.hys_type.specs.Declarations.{constant_of_kind, is_of_kind, place_of}
 use Rattle.hys_type.specs.Nodes.{sort, node_checks, takes_binary, linear_checks}
@@ -24,8 +22,8 @@ use Rattle.hys_type.specs.Checks.{of_kind, expression, has_top, demanded}
 use Rattle.hys_type.specs.Written.{NamesNoGuard, SameNames, AreNamed, Compare, AreKnown, AreAmong}
 use Rattle.hys_type.specs.declared.constant.Known.{Known}
 use Rattle.hys_type.specs.declared.fault.TypeFault.TheVariants as fault
-use Rattle.hys_type.proofs.Passing.{all_join, all_front, all_behind, Pass, none_passes, passes_none, pass_join, pass_front, pass_behind, Fit, none_fit, fit_none}
-use Rattle.hys_type.proofs.NodeRules.{IsSorted, is_equality, Kept, real_sort, bool_sort, kept, fine, Fine, compared_part, operator_of, numbers_join, operands}
+use Rattle.hys_type.proofs.Passing.{all_join, all_front, all_behind, Pass, pass_join, pass_front, pass_behind, Fit}
+use Rattle.hys_type.proofs.NodeRules.{IsSorted, real_sort, bool_sort, kept, fine, compared_part, operator_of, numbers_join, operands}
 use Rattle.hys_type.proofs.ConstantRules.{IsConstantOf, constant_kept, constant_fine}
 
 -- ---- constants

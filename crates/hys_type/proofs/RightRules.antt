@@ -1,5 +1,5 @@
 -- The checks of the right side of an item pass exactly where it suits its section and its numbers fit.
-use Rattle.std.proofs.Common.{◌≡◌, ℕ, List, [], ◌∷◌, ◌++◌, Option, Some, None, Bool, true, false, ◌&&◌, not, cond, map, flat_map, refl, sym, ◌∙◌, ap, ap₂, subst, ◌↔◌, ◌⊎◌, inl, inr}
+use Rattle.std.proofs.Common.{◌≡◌, ℕ, List, [], ◌∷◌, ◌++◌, Option, Some, None, Bool, true, false, refl, sym, ◌∙◌, ap, ap₂, subst, ◌↔◌, ◌⊎◌}
 use Rattle.std.specs.Prelude.{IsTrue}
 use Rattle.std.specs.List.{AllByRecursion}
 use Rattle.std.specs.Ordering.{is_lt}
@@ -19,19 +19,16 @@ use Rattle.hys_ast.specs.Tree as tree
 use Rattle.hys_ast.specs.Nodes.{if_any, shape_expressions}
 use Rattle.hys_meaning.specs.Values.{value, signed, computed}
 use Rattle.hys_meaning.specs.Names.{Name, look}
-use Rattle.hys_meaning.specs.Bodies.{Body, body_in}
-use Rattle.hys_meaning.specs.Folding.{numbers_of}
-use Rattle.hys_meaning.specs.Unfolded.{Guard, named, named_below, named_shape, named_maybe, is_inequality}
+use Rattle.hys_meaning.specs.Bodies.{body_in}
+use Rattle.hys_meaning.specs.Unfolded.{named, named_below, named_shape, named_maybe, is_inequality}
 use Rattle.hys_meaning.specs.Typed.{IsReal, IsMaybe, IsComparison, IsFormula, IsTolerance, RightTyped, LeftTyped, only_parameters, settled, value_or_zero, suits, may_stand}
 use Rattle.hys_meaning.specs.Typed as typed
-use Rattle.hys_type.specs.Faults.{Check, check}
 use Rattle.hys_type.specs.Constants.{find_known, known_value, known_values}
 use Rattle.hys_type.specs.Declarations.{if_some, constant_of_kind}
 use Rattle.hys_type.specs.Checks.{scoped, of_kind, expression, has_top, demanded, is_less, tolerance_checks, output_checks, left_name, right_checks}
-use Rattle.hys_type.specs.Written.{NamesNoGuard, SameNames, AreNamed, Compare, KnownAs, AreKnown, AreAmong, HasRight, GoTogether}
+use Rattle.hys_type.specs.Written.{NamesNoGuard, AreNamed, Compare, KnownAs, HasRight, GoTogether}
 use Rattle.hys_type.specs.declared.constant.Known.{Known}
-use Rattle.hys_type.specs.declared.fault.TypeFault.TheVariants as fault
-use Rattle.hys_type.proofs.Passing.{all_join, all_front, all_behind, Pass, pass_join, pass_front, pass_behind, Fit}
+use Rattle.hys_type.proofs.Passing.{all_join, all_front, all_behind, Pass, pass_join, pass_front, pass_behind}
 use Rattle.hys_type.proofs.PlaceRules.{constant_rule, kind_rule, guard_rule, demand_rule}
 use Rattle.hys_type.proofs.ValueRules.{FitOf, fit_of_join, fit_of_split, fit_one, one_fit}
 

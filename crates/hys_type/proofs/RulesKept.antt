@@ -1,7 +1,6 @@
 -- A source keeps its rules where its unfolded one keeps the rules of typing.
-use Rattle.std.proofs.Common.{◌≡◌, ℕ, suc, ◌+◌, ◌<◌, ◌≤◌, ◌^◌, List, [], ◌∷◌, ◌++◌, Option, Some, None, Bool, true, false, ◌||◌, ◌&&◌, not, cond, map, flat_map, length, count_by, refl, sym, ◌∙◌, ap, ap₂, subst, arith, append_assoc}
+use Rattle.std.proofs.Common.{◌≡◌, ℕ, ◌+◌, ◌<◌, ◌≤◌, ◌^◌, List, [], ◌∷◌, ◌++◌, Option, Some, None, Bool, true, false, ◌||◌, ◌&&◌, map, flat_map, length, refl, sym, ◌∙◌, ap, subst, arith, append_assoc}
 use Rattle.std.specs.Prelude.{IsTrue}
-use Rattle.std.specs.Str.{bytes_eq}
 use Rattle.std.specs.List.{AllByRecursion, list_any}
 use Rattle.hys_ast.specs.declared.source.Section.{Section}
 use Rattle.hys_ast.specs.declared.source.Section.TheVariants as section
@@ -15,7 +14,7 @@ use Rattle.hys_type.specs.Declarations.{known}
 use Rattle.hys_type.specs.Rules.{KeepsTyping}
 use Rattle.hys_type.specs.Written.{IsReadDecl, IsReadItem, IsFirst, NeverTwice, GoTogether}
 use Rattle.hys_type.specs.DeclarationKeeping.{KeepDeclarations, IsReadSource, KeepsItsRules}
-use Rattle.hys_type.proofs.KnownValues.{own_text, declared_texts}
+use Rattle.hys_type.proofs.KnownValues.{own_text}
 use Rattle.hys_type.proofs.Agree.{found_name}
 use Rattle.hys_type.proofs.Passing.{all_front, all_behind}
 use Rattle.hys_type.specs.declared.constant.Known.{Known}

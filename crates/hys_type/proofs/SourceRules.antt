@@ -1,5 +1,5 @@
 -- The checks of a source pass exactly where it keeps its rules and its numbers fit.
-use Rattle.std.proofs.Common.{◌≡◌, ℕ, List, [], ◌∷◌, ◌++◌, Option, Some, None, Bool, true, false, ◌&&◌, not, cond, map, flat_map, filter, refl, sym, ◌∙◌, ap, ap₂, subst, ◌↔◌}
+use Rattle.std.proofs.Common.{◌≡◌, ℕ, List, [], ◌∷◌, ◌++◌, Option, Some, None, Bool, true, false, cond, map, flat_map, refl, sym, ◌∙◌, ap, subst, ◌↔◌}
 use Rattle.std.specs.Prelude.{IsTrue}
 use Rattle.std.specs.Str.{bytes_eq}
 use Rattle.std.specs.List.{AllByRecursion, list_any}
@@ -10,17 +10,17 @@ use Rattle.hys_ast.specs.Tree.{Decl, Item, Source}
 use Rattle.hys_ast.specs.Nodes.{items_expressions}
 use Rattle.hys_meaning.specs.Values.{Assignment}
 use Rattle.hys_meaning.specs.Names.{Name, name_of, names, look, parameters, valued, with_value, is_parameter}
-use Rattle.hys_meaning.specs.Folding.{numbers_of, value_of, bounds_of, judged, folded}
-use Rattle.hys_meaning.specs.Unfolded.{Guard, Naming, guard_name, guard_decl, guards, unfolded, named_items, behind}
-use Rattle.hys_meaning.specs.Typed.{only_parameters, suits, ItemTyped, defines, is_defined}
-use Rattle.hys_type.specs.Faults.{Check, check}
+use Rattle.hys_meaning.specs.Folding.{value_of, bounds_of, judged}
+use Rattle.hys_meaning.specs.Unfolded.{Guard, guard_name, guard_decl, guards, unfolded}
+use Rattle.hys_meaning.specs.Typed.{only_parameters, suits, defines, is_defined}
+use Rattle.hys_type.specs.Faults.{check}
 use Rattle.hys_type.specs.Declarations.{name_checks, value_checks, box_checks, known}
 use Rattle.hys_type.specs.Walks.{walk}
 use Rattle.hys_type.specs.Checks.{checks, scope, item_checks, missing_checks}
-use Rattle.hys_type.specs.Written.{IsNoGuard, SameNames, AreNamed, GoTogether, IsReadDecl}
-use Rattle.hys_type.specs.DeclarationKeeping.{declaration_checks, declared_names, KeepDeclarations, IsReadSource, KeepsItsRules}
+use Rattle.hys_type.specs.Written.{IsNoGuard, AreNamed, GoTogether, IsReadDecl}
+use Rattle.hys_type.specs.DeclarationKeeping.{declared_names, KeepDeclarations, IsReadSource, KeepsItsRules}
 use Rattle.hys_type.specs.declared.fault.TypeFault.TheVariants as fault
-use Rattle.hys_type.proofs.KnownValues.{own_text, other_text, same_text, differ_texts, declared_texts}
+use Rattle.hys_type.proofs.KnownValues.{own_text, other_text, differ_texts, declared_texts}
 use Rattle.hys_type.proofs.Passing.{Pass, pass_join, pass_front, pass_behind, EachPasses, walk_passes, passes_walk}
 use Rattle.hys_type.proofs.ParameterRules.{look_front, look_join, or_name, parameter_among}
 use Rattle.hys_type.proofs.ValueRules.{FitOf, fit_of_join, fit_of_split, filter_join, all_known}

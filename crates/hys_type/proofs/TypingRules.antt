@@ -1,21 +1,20 @@
 -- The unfolded source of one that keeps its rules keeps the rules of typing.
-use Rattle.std.proofs.Common.{◌≡◌, ℕ, suc, ◌+◌, ◌<◌, ◌^◌, List, [], ◌∷◌, ◌++◌, Option, Some, None, Bool, true, false, ◌||◌, not, cond, map, flat_map, length, count_by, refl, sym, ◌∙◌, ap, ap₂, subst, subst₂, arith}
+use Rattle.std.proofs.Common.{◌≡◌, ℕ, suc, ◌+◌, ◌<◌, ◌^◌, List, [], ◌∷◌, ◌++◌, Option, Some, None, Bool, true, false, ◌||◌, cond, map, flat_map, length, count_by, refl, sym, ◌∙◌, ap, ap₂, subst, arith}
 use Rattle.std.specs.Prelude.{IsTrue}
-use Rattle.std.specs.Str.{bytes_eq}
 use Rattle.std.specs.List.{AllByRecursion, list_any}
 use Rattle.std.proofs.lemmas.List.Sums.{sum_by-cons}
 use Rattle.hys_ast.specs.Tree.{Decl, Item, Source}
 use Rattle.hys_meaning.specs.Values.{Assignment}
 use Rattle.hys_meaning.specs.Names.{Name, name_of, names, parameters, is_parameter}
-use Rattle.hys_meaning.specs.Unfolded.{Guard, Naming, guard_name, guard_item, guard_decl, guards, unfolded, named_item, named_items, behind}
-use Rattle.hys_meaning.specs.Typed.{Typed, ValuesTyped, BoxTyped, IsBox, has_box, has_value, defines, is_defined, only_parameters, IsMaybe, IsReal}
+use Rattle.hys_meaning.specs.Unfolded.{Guard, guard_name, guard_item, guard_decl, guards, unfolded, named_item, named_items, behind}
+use Rattle.hys_meaning.specs.Typed.{ValuesTyped, BoxTyped, IsBox, has_box, has_value, defines, is_defined, only_parameters, IsMaybe, IsReal}
 use Rattle.hys_type.specs.Declarations.{known}
 use Rattle.hys_type.specs.Rules.{KeepsTyping}
 use Rattle.hys_type.specs.Written.{IsNoGuard, IsReadDecl, IsReadItem, IsFirst, NeverTwice, GoTogether}
-use Rattle.hys_type.specs.DeclarationKeeping.{declared_names, KeepDeclarations, IsReadSource, KeepsItsRules}
-use Rattle.hys_type.proofs.KnownValues.{own_text, other_text, same_text, declared_texts}
+use Rattle.hys_type.specs.DeclarationKeeping.{KeepDeclarations, IsReadSource, KeepsItsRules}
+use Rattle.hys_type.proofs.KnownValues.{own_text, other_text, same_text}
 use Rattle.hys_type.proofs.Passing.{all_join}
-use Rattle.hys_type.proofs.SourceRules.{names_more, values_more, go_together}
+use Rattle.hys_type.proofs.SourceRules.{values_more, go_together}
 use Rattle.hys_type.proofs.GuardCounts.{Counted, all_guards, items_counted, other_guard, guards_differ, differ_more}
 
 -- ---- how often a name is defined

@@ -6,13 +6,12 @@ use Rattle.std.proofs.lemmas.List.Sums.{sum_by-cons, sum_by-append}
 use Rattle.hys_ast.specs.declared.place.Place.{Place}
 use Rattle.hys_ast.specs.declared.source.Section.{Section}
 use Rattle.hys_ast.specs.declared.tree.BinaryOp.{BinaryOp}
-use Rattle.hys_ast.specs.declared.tree.BinaryOp.TheVariants as binary
 use Rattle.hys_ast.specs.Tree.{Tree, Shape, Item, Source}
 use Rattle.hys_ast.specs.Tree as tree
 use Rattle.hys_ast.specs.Nodes.{shape_expressions, if_any}
 use Rattle.hys_meaning.specs.Typed.{is_connective, is_demand}
 use Rattle.hys_meaning.specs.Names.{parameters}
-use Rattle.hys_meaning.specs.Unfolded.{Guard, Naming, guard_item, is_inequality, keeps_top, paired, guarded_if, named, named_below, named_top, named_maybe, choice_parts, applied, named_choice, named_shape, named_item, named_items, behind, unfolded}
+use Rattle.hys_meaning.specs.Unfolded.{Guard, Naming, guard_item, is_inequality, keeps_top, paired, guarded_if, named, named_below, named_top, named_maybe, choice_parts, applied, named_shape, named_item, named_items, behind, unfolded}
 use Rattle.hys_meaning.specs.Weight.{connectives, item_weight, weight}
 use Rattle.hys_prog.specs.declared.program.Name.{Name as ProgName}
 use Rattle.hys_prog.specs.Programs.{names_weight}

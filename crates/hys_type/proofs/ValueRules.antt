@@ -1,5 +1,5 @@
 -- The checks of values and boxes pass exactly where these are typed, the boxes aren't empty, and the numbers fit.
-use Rattle.std.proofs.Common.{◌≡◌, ℕ, List, [], ◌∷◌, ◌++◌, Option, Some, None, Bool, true, false, ◌&&◌, not, cond, map, flat_map, filter, refl, sym, ◌∙◌, ap, ap₂, subst, subst₂, append_assoc, ◌↔◌}
+use Rattle.std.proofs.Common.{◌≡◌, ℕ, List, [], ◌∷◌, ◌++◌, Option, Some, None, Bool, true, false, not, cond, map, flat_map, filter, refl, sym, ◌∙◌, ap, subst, subst₂, append_assoc, ◌↔◌}
 use Rattle.std.specs.Prelude.{IsTrue}
 use Rattle.std.specs.List.{AllByRecursion}
 use Rattle.std.specs.Str.{bytes_eq}
@@ -8,23 +8,19 @@ use Rattle.std.specs.declared.cmp.Ordering.{Ordering}
 use Rattle.std.specs.declared.cmp.Ordering.TheVariants.{Less, Equal, Greater}
 use Rattle.std.proofs.lemmas.List.{append-nil}
 use Rattle.std.proofs.Math.Path.{fun_ext}
-use Rattle.hys_number.specs.Number.{Number}
-use Rattle.hys_number.specs.Ops.{whole, ◌≤ₙ◌}
+use Rattle.hys_number.specs.Ops.{◌≤ₙ◌}
 use Rattle.hys_frac.specs.Compare.{number_cmp}
 use Rattle.hys_frac.proofs.Comparisons.{is_le-cmp}
-use Rattle.hys_base.specs.Differ.{Apart, Differ}
-use Rattle.hys_ast.specs.declared.place.Place.{Place}
-use Rattle.hys_ast.specs.declared.source.Kind.{Kind}
 use Rattle.hys_ast.specs.declared.source.Kind.TheVariants as kind
 use Rattle.hys_ast.specs.Tree.{Tree, Decl}
 use Rattle.hys_ast.specs.Nodes.{if_any}
 use Rattle.hys_meaning.specs.Values.{Assignment, value}
 use Rattle.hys_meaning.specs.Names.{Name, name_of, look, is_parameter, parameters, valued}
-use Rattle.hys_meaning.specs.Folding.{Computed, numbers_of, value_of, bounds_of}
+use Rattle.hys_meaning.specs.Folding.{numbers_of, value_of, bounds_of}
 use Rattle.hys_meaning.specs.Typed.{differ, only_parameters, IsMaybe, IsOfKind, IsReal, ValuesTyped, BoxTyped, IsBox, has_value, has_box}
-use Rattle.hys_type.specs.Faults.{Check, check}
+use Rattle.hys_type.specs.Faults.{check}
 use Rattle.hys_type.specs.declared.fault.TypeFault.TheVariants as fault
-use Rattle.hys_type.specs.Constants.{find_known, known_values, has_number}
+use Rattle.hys_type.specs.Constants.{find_known, known_values}
 use Rattle.hys_type.specs.Declarations.{other, others, with_parameter, with_parameters, known, is_given, if_some, parameter_checks, value_checks, constant_of_kind, at_most, ends_checks, bounds_checks, given_bounds_checks, box_checks}
 use Rattle.hys_type.specs.Walks.{walk}
 use Rattle.hys_type.specs.Written.{KnownAs, AreKnown, AreAmong, IsReadDecl}

@@ -1,5 +1,5 @@
 -- The rules on the declarations of a source, and their checks.
-use Rattle.std.specs.Prelude.{ℕ, ◌≤◌, List, [], ◌++◌, map, length, IsTrue}
+use Rattle.std.specs.Prelude.{◌≤◌, List, [], ◌++◌, map, length, IsTrue}
 use Rattle.std.specs.List.{AllByRecursion, list_any}
 use Rattle.hys_ast.specs.Tree.{Decl, Source}
 use Rattle.hys_meaning.specs.Names.{Name, name_of, names, parameters, is_parameter}

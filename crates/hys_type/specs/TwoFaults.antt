@@ -1,12 +1,12 @@
 -- Small sources for the order of faults, most of them with two, written by hand: the real state x with box 0 to 10.
-use Rattle.std.specs.Prelude.{ℕ, List, [], ◌∷◌, Option, Some, None, codes}
+use Rattle.std.specs.Prelude.{ℕ, [], ◌∷◌, Option, Some, None, codes}
 use Rattle.hys_ast.specs.declared.source.Section.TheVariants as section
 use Rattle.hys_ast.specs.declared.source.Kind.{Kind}
 use Rattle.hys_ast.specs.declared.source.Kind.TheVariants as kind
 use Rattle.hys_ast.specs.declared.tree.BinaryOp.{BinaryOp}
 use Rattle.hys_ast.specs.Tree.{Tree, Decl, Item, Source}
 use Rattle.hys_ast.specs.Tree as tree
-use Rattle.hys_type.specs.Examples.{spot, digits, name, zero_at, ten_at, state, next, source}
+use Rattle.hys_type.specs.Examples.{spot, digits, name, zero_at, ten_at, state, source}
 
 -- the name x, and an operator between two expressions
 abbrev pub x_at : ℕ → Tree

@@ -3,9 +3,9 @@
 ghost use Rattle.std.specs.Prelude.{◌≡◌, ◌≢◌, [], ◌∷◌, ◌++◌, length, map, IfOk};
 ghost use Rattle.std.specs.Result.{result_err};
 ghost use Rattle.std.specs.List.{AllByRecursion, list_all};
-ghost use Rattle.hys_number.specs.Ops.{whole};
+ghost use Rattle.hys_number.specs.Ops.{◌+ₙ◌, ◌-ₙ◌, ◌*ₙ◌, ◌/ₙ◌, whole};
 ghost use Rattle.hys_meaning.specs.Folding.{is_zero};
-ghost use Rattle.hys_lin.specs.Operations.{first_lost, result_of};
+ghost use Rattle.hys_lin.specs.Operations.{first_lost, over, minus, plus, result_of, times};
 ghost use Rattle.hys_lin.specs.Scaled.{AnswersLost};
 ghost use Rattle.hys_lin.specs.declared.lost.Op.TheVariants as operation;
 ghost use Rattle.hys_type.specs.Dense.{between, zipped, folded_by, folded_form, spread};
@@ -22,17 +22,69 @@ pub struct Dense {
     pub constant: Frac,
 }
 
-/// The operation between two numbers, or the two where its result doesn't fit.
+// The sum, which is 0 at most names.
+#[tactic(auto, using(crate::proofs::Zeros::none_added, crate::proofs::Zeros::nothing_lost))]
+fn sum(left: Frac, right: Frac) -> Result<Frac, Lost>
+    ensures value { IfOk result (λ r. r ≡ left +ₙ right) }
+    ensures lost { result_err result ≡ first_lost (plus left right ∷ []) }
+{
+    if left.is_zero() && right.is_zero() {
+        return Ok(Frac::whole(0));
+    }
+    add(left, right)
+}
+
+// The difference, which is 0 at most names.
+#[tactic(auto, using(crate::proofs::Zeros::none_subtracted, crate::proofs::Zeros::nothing_lost))]
+fn difference(left: Frac, right: Frac) -> Result<Frac, Lost>
+    ensures value { IfOk result (λ r. r ≡ left -ₙ right) }
+    ensures lost { result_err result ≡ first_lost (minus left right ∷ []) }
+{
+    if left.is_zero() && right.is_zero() {
+        return Ok(Frac::whole(0));
+    }
+    subtract(left, right)
+}
+
+// The product, which is 0 at most names.
+#[tactic(auto, using(crate::proofs::Zeros::none_multiplied, crate::proofs::Zeros::by_none_multiplied, crate::proofs::Zeros::nothing_lost))]
+fn product(left: Frac, right: Frac) -> Result<Frac, Lost>
+    ensures value { IfOk result (λ r. r ≡ left *ₙ right) }
+    ensures lost { result_err result ≡ first_lost (times left right ∷ []) }
+{
+    if left.is_zero() {
+        return Ok(Frac::whole(0));
+    }
+    if right.is_zero() {
+        return Ok(Frac::whole(0));
+    }
+    multiply(left, right)
+}
+
+// The quotient, which is 0 at most names.
+#[tactic(auto, using(crate::proofs::Zeros::none_multiplied, crate::proofs::Zeros::nothing_lost))]
+fn quotient(left: Frac, right: Frac) -> Result<Frac, Lost>
+    requires { right ≢ whole 0 }
+    ensures value { IfOk result (λ r. r ≡ left /ₙ right) }
+    ensures lost { result_err result ≡ first_lost (over left right ∷ []) }
+{
+    if left.is_zero() {
+        return Ok(Frac::whole(0));
+    }
+    divide(left, right)
+}
+
+// The operation between two numbers, or the two where its result doesn't fit.
 fn operate(op: Op, left: Frac, right: Frac) -> Result<Frac, Lost>
     requires { op ≡ operation.Div → right ≢ whole 0 }
     ensures value { IfOk result (λ r. r ≡ result_of op left right) }
     ensures lost { result_err result ≡ first_lost (between op left right ∷ []) }
 {
     match op {
-        Op::Add => add(left, right),
-        Op::Sub => subtract(left, right),
-        Op::Mul => multiply(left, right),
-        Op::Div => divide(left, right),
+        Op::Add => sum(left, right),
+        Op::Sub => difference(left, right),
+        Op::Mul => product(left, right),
+        Op::Div => quotient(left, right),
     }
 }
 

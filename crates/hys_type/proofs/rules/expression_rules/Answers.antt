@@ -1,5 +1,5 @@
 use Rattle.hys_meaning.specs.Folding.{numbers_of}
-use Rattle.hys_meaning.specs.Unfolded.{named, named_below, is_inequality}
+use Rattle.hys_meaning.specs.Unfolded.{is_inequality}
 use Rattle.hys_type.specs.Declarations.{constant_of_kind}
 use Rattle.hys_type.specs.Checks.{of_kind, expression, has_top, demanded}
 use Rattle.hys_type.proofs.Passing.{none_passes, passes_none, none_fit, fit_none}
