@@ -1,0 +1,5 @@
+pub mod Certificate
+pub mod Shows
+pub mod Fits
+pub mod Worked
+pub mod Laws
