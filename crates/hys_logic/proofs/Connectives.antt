@@ -56,7 +56,7 @@ bits_iff false false true = let h : 0 < 1 = omega arith in simp (overs, whole-ra
 bits_iff false false false = let h : 0 < 1 = omega arith in simp (overs, whole-ratio 0 1 h, whole-ratio 1 1 h) (omega arith)
 
 -- ---- rows at an assignment
-signed-add : (s : Sign) (a b : Number) → signed s (a +ₙ b) ≡ signed s a +ₙ signed s b
+pub signed-add : (s : Sign) (a b : Number) → signed s (a +ₙ b) ≡ signed s a +ₙ signed s b
 signed-add Plus a b = refl
 signed-add Minus a b = neg-add a b
 
@@ -74,7 +74,7 @@ row_at s t u a b r z base v l m w e f g h =
       λ d. y.1 (subst (λ (n : Number). n ≤ₙ int z) (sym q) (subst (λ (n : Number). signed s (bit l) +ₙ signed t (bit m) +ₙ signed u (bit w) ≤ₙ n) (sym e) d)),
     )
 
-none_is : (v : Assignment) → number_of (Fixed false) v ≡ bit false
+pub none_is : (v : Assignment) → number_of (Fixed false) v ≡ bit false
 none_is v = by_ring [] (k 0 ⊕ k 0) (k 0) refl
 
 -- what the connective's rows mean, where its column has the truth value w

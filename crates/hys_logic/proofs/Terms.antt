@@ -26,7 +26,7 @@ pub signed_zero : (s : Sign) (n : ℕ) → 0 < n → ¬ (signed s (whole n) ≡ 
 signed_zero Plus n l e = whole_zero n l e
 signed_zero Minus n l e = whole_zero n l (neg_is_zero (whole n) e)
 
-signed-one : (s : Sign) (x : Number) → signed s (whole 1) *ₙ x ≡ signed s x
+pub signed-one : (s : Sign) (x : Number) → signed s (whole 1) *ₙ x ≡ signed s x
 signed-one Plus x = by_ring (x ∷ []) (k 1 ⊗ v 0) (v 0) refl
 signed-one Minus x = by_ring (x ∷ []) (minus (k 1) ⊗ v 0) (minus (v 0)) refl
 

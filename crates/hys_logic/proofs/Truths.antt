@@ -30,7 +30,7 @@ pub below_more : (m n : ℕ) (rs : List Row) → m ≤ n → EachBelow m rs → 
 below_more m n [] l h = tt
 below_more m n (r ∷ rs) l h = (each_more (λ c. c < m) (λ c. c < n) r.terms (λ c p. omega arith) h.0, below_more m n rs l h.1)
 
-hold-append : (v : Assignment) (xs ys : List Stated) → HoldStated v (xs ++ ys) ↔ (HoldStated v xs × HoldStated v ys)
+pub hold-append : (v : Assignment) (xs ys : List Stated) → HoldStated v (xs ++ ys) ↔ (HoldStated v xs × HoldStated v ys)
 hold-append v [] ys = (λ h. (tt, h), λ h. h.1)
 hold-append v (r ∷ rs) ys = (λ h. let e : HoldStated v rs × HoldStated v ys = (hold-append v rs ys).0 h.1 in ((h.0, e.0), e.1), λ h. (h.0.0, (hold-append v rs ys).1 (h.0.1, h.1)))
 
@@ -121,7 +121,7 @@ name_more P Q (named n) i h = i n h
 name_more P Q (negated f) i h = name_more P Q f i h
 name_more P Q (joined c f g) i h = (name_more P Q f i h.0, name_more P Q g i h.1)
 
-same_length : (rs : List Row) (ss : List Stated) → AreRows rs ss → length rs ≡ length ss
+pub same_length : (rs : List Row) (ss : List Stated) → AreRows rs ss → length rs ≡ length ss
 same_length [] [] h = refl
 same_length [] (s ∷ ss) h = absurd h
 same_length (r ∷ rs) [] h = absurd h
@@ -134,7 +134,7 @@ four Iff a b r = omega arith
 four Then a b r = omega arith
 four From a b r = omega arith
 
-count : (f : FormulaTree) (p : ℕ → ℕ) (k : ℕ) → length (stated_of p k f) ≤ 4 * connectives f
+pub count : (f : FormulaTree) (p : ℕ → ℕ) (k : ℕ) → length (stated_of p k f) ≤ 4 * connectives f
 count (constant b) p k = omega arith
 count (named n) p k = omega arith
 count (negated f) p k = count f p k

@@ -1,19 +1,23 @@
 -- What the rows of a formula mean, over the columns of its names and the fresh columns of its connectives.
-use Rattle.std.specs.Prelude.{◌≡◌, ℕ, ◌+◌, ◌<◌, List, length, Bool, ◌↔◌}
+use Rattle.std.specs.Prelude.{ℕ, ◌+◌, ◌<◌, List, length, Bool}
 use Rattle.hys_lin.specs.declared.form.Row.{Row}
-use Rattle.hys_lin.specs.Sums.{Assignment, value, EachColumn, HoldAll}
-use Rattle.hys_lin.specs.Bits.{bit, IsBit}
-use Rattle.hys_lin.specs.Stated.{AreRows, EachBelow}
+use Rattle.hys_lin.specs.Sums.{Assignment, EachColumn}
+use Rattle.hys_lin.specs.Bits.{IsBit}
+use Rattle.hys_lin.specs.Stated.{EachBelow}
 use Rattle.hys_formula.specs.declared.formula.Connective.{Connective}
 use Rattle.hys_formula.specs.Formulas.{FormulaTree, connectives, EachName, truth}
 use Rattle.hys_logic.specs.declared.literal.Literal.{Literal}
 use Rattle.hys_logic.specs.declared.literal.Logic.{Logic}
-use Rattle.hys_logic.specs.Literals.{column_in, literal_of, number_of}
-use Rattle.hys_logic.specs.Rows.{Added, Agrees, BitsFrom, fresh_of, stated_of, connective_stated}
+use Rattle.hys_logic.specs.Literals.{column_in}
+use Rattle.hys_logic.specs.Rows.{Added, stated_of, connective_stated}
 
 -- each name of the formula has a column, which is below k
 abbrev pub HaveColumns : List ℕ → ℕ → FormulaTree → Type 0
 HaveColumns cs k f = EachName (λ n. (n < length cs) × (column_in cs n < k)) f
+
+-- each name of the formula has a column
+abbrev pub NamesWithin : List ℕ → FormulaTree → Type 0
+NamesWithin cs f = EachName (λ n. n < length cs) f
 
 -- the columns of the formula's names have 0 or 1
 abbrev pub HaveBits : List ℕ → Assignment → FormulaTree → Type 0
@@ -22,28 +26,6 @@ HaveBits cs v f = EachName (λ n. IsBit (v (column_in cs n))) f
 -- the truth of the formula where each name has the number of its column
 abbrev pub truth_at : List ℕ → Assignment → FormulaTree → Bool
 truth_at cs v f = truth f (λ n. v (column_in cs n))
-
--- the columns from k on have the truths of the connectives
-abbrev pub HaveTruths : List ℕ → ℕ → Assignment → FormulaTree → Type 0
-HaveTruths cs k v f = Agrees v k (fresh_of f (λ n. v (column_in cs n)))
-
--- for each choice of 0 or 1 for the names there is one solution with 0 or 1 in the fresh columns: the truths of the
--- connectives
-abbrev pub HaveOneSolution : List ℕ → ℕ → FormulaTree → Logic → Type 0
-HaveOneSolution cs k f l =
-    (v : Assignment) → HaveBits cs v f → BitsFrom v k l.fresh → HoldAll v l.rows ↔ HaveTruths cs k v f
-
--- there the literal is the formula's truth
-abbrev pub HasTruth : List ℕ → ℕ → FormulaTree → Logic → Type 0
-HasTruth cs k f l =
-    (v : Assignment) → HaveBits cs v f → HaveTruths cs k v f → value l.literal v ≡ bit (truth_at cs v f)
-
--- the literal and the rows are the stated ones
-abbrev pub HasLiteral : List ℕ → ℕ → FormulaTree → Logic → Type 0
-HasLiteral cs k f l = (v : Assignment) → value l.literal v ≡ number_of (literal_of (column_in cs) k f) v
-
-abbrev pub HasRows : List ℕ → ℕ → FormulaTree → Logic → Type 0
-HasRows cs k f l = AreRows l.rows (stated_of (column_in cs) k f)
 
 -- the rows and the literal name columns below the first that is free behind the fresh ones
 abbrev pub IsBelow : ℕ → Logic → Type 0

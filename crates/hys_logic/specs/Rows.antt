@@ -32,11 +32,22 @@ abbrev pub own_terms : Literal → List Term
 own_terms (Fixed b) = []
 own_terms (Column c n) = record { column = c; factor = signed (turned Plus n) (whole 1) } ∷ []
 
+-- a base less the constants of two literals with their signs
+abbrev pub moved_by : Sign → Literal → Sign → Literal → ℤ → Number
+moved_by s a t b z = int z -ₙ signed s (constant_part a) -ₙ signed t (constant_part b)
+
 -- two literals and a column with their signs, at most a base; the literals' constants stand in the bound
 abbrev pub row_by : Sign → Literal → Sign → Literal → Sign → ℕ → ℤ → Stated
 row_by s a t b u r z = record {
   left = λ v. signed s (column_part a v) +ₙ signed t (column_part b v) +ₙ signed u (v r);
-  bound = int z -ₙ signed s (constant_part a) -ₙ signed t (constant_part b);
+  bound = moved_by s a t b z;
+}
+
+-- two literals with their signs, at most a base; the literals' constants stand in the bound
+abbrev pub pair_by : Sign → Literal → Sign → Literal → ℤ → Stated
+pair_by s a t b z = record {
+  left = λ v. signed s (column_part a v) +ₙ signed t (column_part b v);
+  bound = moved_by s a t b z;
 }
 
 -- a row with one literal
@@ -100,3 +111,7 @@ pub record AreOf (s : Sign) (a : Literal) (t : Sign) (b : Literal) (ts : List Te
   pub terms : AreTerms ts
   pub sums : (v : Assignment) → sum_of ts v ≡ signed s (column_part a v) +ₙ signed t (column_part b v)
   pub below : (n : ℕ) → LiteralBelow n a → LiteralBelow n b → EachColumn (λ c. c < n) ts
+
+-- each column of the row is below n where those of the literals are
+abbrev pub PairBelow : Literal → Literal → Row → Type 0
+PairBelow a b r = (n : ℕ) → LiteralBelow n a → LiteralBelow n b → EachColumn (λ c. c < n) r.terms

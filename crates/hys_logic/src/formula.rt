@@ -1,60 +1,25 @@
-ghost use Rattle.std.specs.Prelude.{◌≡◌, ◌+◌, ◌*◌, ◌^◌, ◌≤◌, ◌<◌, IfOk, length};
-ghost use Rattle.hys_lin.specs.Sums.{AreTerms};
+ghost use Rattle.std.specs.Prelude.{◌≡◌, ◌+◌, ◌^◌, ◌≤◌, IfOk};
 ghost use Rattle.hys_formula.specs.Formulas.{tree_of, connectives};
-ghost use Rattle.hys_logic.specs.declared.row.Sign.TheVariants.{Plus, Minus};
 ghost use Rattle.hys_formula.specs.declared.formula.Connective.TheVariants.{And, Iff};
 ghost use Rattle.hys_logic.specs.Literals.{column_in, literal_of, LiteralBelow};
 ghost use Rattle.hys_logic.specs.Rows.{Added, or_stated};
-ghost use Rattle.hys_logic.specs.Meanings.{HaveColumns, HaveOneSolution, HasTruth, HasLiteral, HasRows, IsBelow, AddsFormula, AddsConnective};
+ghost use Rattle.hys_logic.specs.Meanings.{HaveColumns, AddsFormula, AddsConnective};
 
-use crate::literal::{Literal, Logic};
-use crate::row::{Part, Sign, nothing, row_of};
-use hys_base::List;
+use crate::literal::Literal;
+use crate::row::{Sign, minus, nothing, plus, row_of};
 use hys_formula::{Connective, Formula};
 use hys_lin::Row;
 use std::alloc::{AllocError, Global};
 
 // The literal of a formula whose rows were made, and the next free column.
 #[derive(Clone, Copy, Debug, PartialEq, Eq)]
-struct Made {
-    literal: Literal,
-    next: u64,
-}
-
-/// The rows of a formula. `columns` gives each name's column, below `first_free`; each connective
-/// takes the next column from `first_free` on, in post-order. For each choice of 0 or 1 in the
-/// names' columns the rows have exactly one solution with 0 or 1 in the fresh columns: there each
-/// has the truth of its connective, and the literal that of the formula.
-pub fn rows_of(
-    alloc: Global,
-    formula: &Formula,
-    columns: &[u32],
-    first_free: u32,
-) -> Result<Logic, AllocError>
-    requires names { HaveColumns columns.now first_free (tree_of formula.now) }
-    requires room { first_free + connectives (tree_of formula.now) ≤ 2 ^ 32 }
-    requires count { connectives (tree_of formula.now) < 2 ^ 32 }
-    ensures solution { IfOk result (λ l. HaveOneSolution columns.now first_free (tree_of formula.now) l) }
-    ensures literal { IfOk result (λ l. HasTruth columns.now first_free (tree_of formula.now) l) }
-    ensures literal_stated { IfOk result (λ l. HasLiteral columns.now first_free (tree_of formula.now) l) }
-    ensures fresh { IfOk result (λ l. l.fresh ≡ connectives (tree_of formula.now)) }
-    ensures stated { IfOk result (λ l. HasRows columns.now first_free (tree_of formula.now) l) }
-    ensures count { IfOk result (λ l. length l.rows ≤ 4 * connectives (tree_of formula.now)) }
-    ensures form { IfOk result (λ l. AreTerms l.literal.terms × (length l.literal.terms ≤ 1)) }
-    ensures below { IfOk result (λ l. IsBelow (first_free + connectives (tree_of formula.now)) l) }
-{
-    let mut rows = Vec::new(alloc);
-    let made = add_rows(alloc, formula, columns, u64::from(first_free), &mut rows)?;
-    let literal = made.literal.form(alloc)?;
-    Ok(Logic {
-        rows: List::of(rows),
-        literal,
-        fresh: (made.next - u64::from(first_free)) as u32,
-    })
+pub struct Made {
+    pub literal: Literal,
+    pub next: u64,
 }
 
 // Adds the rows of a formula whose connectives take the columns from `next` on.
-fn add_rows(
+pub fn add_rows(
     alloc: Global,
     formula: &Formula,
     columns: &[u32],
@@ -131,25 +96,6 @@ fn add_connective(
         Connective::From => add_or(alloc, left, right.opposite(), column, rows)?,
     }
     Ok(())
-}
-
-// A literal with a sign.
-fn plus(literal: Literal) -> Part
-    ensures { result ≡ record { sign = Plus; literal = literal } }
-{
-    Part {
-        sign: Sign::Plus,
-        literal,
-    }
-}
-
-fn minus(literal: Literal) -> Part
-    ensures { result ≡ record { sign = Minus; literal = literal } }
-{
-    Part {
-        sign: Sign::Minus,
-        literal,
-    }
 }
 
 fn add_and(

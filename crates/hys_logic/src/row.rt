@@ -3,9 +3,9 @@ ghost use Rattle.hys_number.specs.Ops.{whole, int};
 ghost use Rattle.hys_lin.specs.Sums.{EachColumn};
 ghost use Rattle.hys_lin.specs.Bits.{bit as bit_of};
 ghost use Rattle.hys_logic.specs.declared.literal.Literal.TheVariants.{Fixed};
-ghost use Rattle.hys_logic.specs.declared.row.Sign.TheVariants.{Plus};
+ghost use Rattle.hys_logic.specs.declared.row.Sign.TheVariants.{Plus, Minus};
 ghost use Rattle.hys_logic.specs.Literals.{LiteralBelow};
-ghost use Rattle.hys_logic.specs.Rows.{signed, row_by, turned, IsSum, AreOf};
+ghost use Rattle.hys_logic.specs.Rows.{signed, row_by, pair_by, moved_by, turned, IsSum, AreOf, PairBelow};
 ghost use Rattle.hys_lin.specs.Stated.{IsRow};
 
 use crate::literal::Literal;
@@ -70,6 +70,25 @@ impl Sign {
 pub struct Part {
     pub sign: Sign,
     pub literal: Literal,
+}
+
+// A literal with a sign.
+pub fn plus(literal: Literal) -> Part
+    ensures { result ≡ record { sign = Plus; literal = literal } }
+{
+    Part {
+        sign: Sign::Plus,
+        literal,
+    }
+}
+
+pub fn minus(literal: Literal) -> Part
+    ensures { result ≡ record { sign = Minus; literal = literal } }
+{
+    Part {
+        sign: Sign::Minus,
+        literal,
+    }
 }
 
 /// The part without a literal.
@@ -189,6 +208,16 @@ fn remaining(base: i8, moved: i8, other: i8) -> i8
     base - moved - other
 }
 
+// The bound of a row whose literals' constants are moved from its left.
+fn moved(left: Part, right: Part, base: i8) -> Frac
+    requires { unsigned_abs base ≤ 1 }
+    ensures { result ≡ moved_by left.sign left.literal right.sign right.literal base }
+{
+    let moved = left.sign.constant(left.literal.constant());
+    let other = right.sign.constant(right.literal.constant());
+    small(remaining(base, moved, other))
+}
+
 /// The row of two literals and a column with their signs, at most `base`. The column is above
 /// those of the literals.
 pub fn row_of(
@@ -208,11 +237,23 @@ pub fn row_of(
 {
     let mut terms = literal_terms(alloc, left, right)?;
     terms.push(term(column, own))?;
-    let moved = left.sign.constant(left.literal.constant());
-    let other = right.sign.constant(right.literal.constant());
     Ok(Row {
         terms: List::of(terms),
-        bound: small(remaining(base, moved, other)),
+        bound: moved(left, right, base),
+        eq: false,
+    })
+}
+
+/// The row of two literals with their signs, at most `base`.
+pub fn pair_of(alloc: Global, left: Part, right: Part, base: i8) -> Result<Row, AllocError>
+    requires base { unsigned_abs base ≤ 1 }
+    ensures stated { IfOk result (λ r. IsRow r (pair_by left.sign left.literal right.sign right.literal base)) }
+    ensures below { IfOk result (λ r. PairBelow left.literal right.literal r) }
+{
+    let terms = literal_terms(alloc, left, right)?;
+    Ok(Row {
+        terms: List::of(terms),
+        bound: moved(left, right, base),
         eq: false,
     })
 }

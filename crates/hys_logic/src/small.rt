@@ -4,9 +4,9 @@ ghost use Rattle.hys_lin.specs.Bits.{bit as bit_of};
 
 use hys_frac::Frac;
 
-/// A whole number from -3 to 3.
+/// A whole number from -5 to 5.
 pub fn small(number: i8) -> Frac
-    requires { unsigned_abs number ≤ 3 }
+    requires { unsigned_abs number ≤ 5 }
     ensures { result ≡ int number }
 {
     let magnitude = Frac::whole(u32::from(number.unsigned_abs()));

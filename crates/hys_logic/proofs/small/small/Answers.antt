@@ -5,7 +5,7 @@ use Rattle.hys_number.proofs.Ring.{int-whole}
 use Rattle.hys_logic.proofs.Smalls.{int-neg}
 use Rattle.hys_logic.proofs.small.small.Goals as goal
 
-signed_fits : (z : ℤ) → unsigned_abs z ≤ 3 → FitsSigned w8 z
+signed_fits : (z : ℤ) → unsigned_abs z ≤ 5 → FitsSigned w8 z
 signed_fits z h = omega (arith, ints)
 
 pub returns-then-number-lt0 : goal.returns-then-number-lt0

@@ -14,3 +14,15 @@ returns-in-Not-clause-names t c =
 pub returns-in-Some-Some-clause-names : goal.returns-in-Some-Some-clause-names
 returns-in-Some-Some-clause-names t c =
     rw (c.in-Join.is, ← c.deref-in-Join.ensures, ← c.deref-in-Join-2.ensures) (c.in-Some-Some.ensures.names, c.in-Some-Some.ensures'.names)
+
+abbrev Apart : ℕ → (ℕ → ℕ) → FormulaTree → Type 0
+Apart d p f = EachName (λ n. d ≡ p n → ⊥) f
+
+pub returns-in-Not-clause-apart : goal.returns-in-Not-clause-apart
+returns-in-Not-clause-apart t c =
+    let e : tree_of c.args.formula.now ≡ negated (tree_of c.deref.result.now) = rw (c.in-Not.is, c.deref.ensures) refl in
+    subst (λ (f : FormulaTree). IfSome c.small.result (λ _. Apart c.args.apart (column_in c.args.columns.now) f)) (sym e) c.small.ensures.apart
+
+pub returns-in-Some-Some-clause-apart : goal.returns-in-Some-Some-clause-apart
+returns-in-Some-Some-clause-apart t c =
+    rw (c.in-Join.is, ← c.deref-in-Join.ensures, ← c.deref-in-Join-2.ensures) (c.in-Some-Some.ensures.apart, c.in-Some-Some.ensures'.apart)
