@@ -7,3 +7,4 @@ pub mod Moving
 pub mod Along
 pub mod Given
 pub mod Exactness
+pub mod Example
