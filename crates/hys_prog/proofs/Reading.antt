@@ -44,7 +44,7 @@ same_sum : (v w : Assignment) (ts : List Term) → EachColumn (Same v w) ts → 
 same_sum v w [] h = refl
 same_sum v w (t ∷ ts) h = ap₂ (λ (a b : Number). t.factor *ₙ a +ₙ b) h.0 (same_sum v w ts h.1)
 
-same_value : (v w : Assignment) (f : Affine) → EachColumn (Same v w) f.terms → value f v ≡ value f w
+pub same_value : (v w : Assignment) (f : Affine) → EachColumn (Same v w) f.terms → value f v ≡ value f w
 unfolding value
 same_value v w f h = ap (λ (a : Number). a +ₙ f.constant) (same_sum v w f.terms h)
 
@@ -54,7 +54,7 @@ same_summing v w start (t ∷ ts) h =
     ap (λ (os : List Lost). times t.factor (v t.column) ∷ plus start (t.factor *ₙ v t.column) ∷ os) (same_summing v w (start +ₙ t.factor *ₙ v t.column) ts h.1)
     ∙ ap (λ (a : Number). times t.factor a ∷ plus start (t.factor *ₙ a) ∷ summing (start +ₙ t.factor *ₙ a) ts (λ (t : Term). w t.column)) h.0
 
-same_truth : (v w : Assignment) (f : FormulaTree) → EachName (Same v w) f → truth f v ≡ truth f w
+pub same_truth : (v w : Assignment) (f : FormulaTree) → EachName (Same v w) f → truth f v ≡ truth f w
 same_truth v w (constant b) h = refl
 same_truth v w (named n) h = ap is_one h
 same_truth v w (negated f) h = ap not (same_truth v w f h)

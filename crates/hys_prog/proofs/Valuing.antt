@@ -49,7 +49,7 @@ chosen_value w false a b = refl
 clash_role : (r s : Role) → r ≡ s → is_auxiliary s ≡ false → is_auxiliary r ≡ true → ⊥
 clash_role r s e f g = let q = rw e at g in absurd (cc)
 
-case_number : (w : Assignment) (n : ℕ) (b : Body) → IsAuxBody b → Case w n b → w n ≡ number_of w b
+pub case_number : (w : Assignment) (n : ℕ) (b : Body) → IsAuxBody b → Case w n b → w n ≡ number_of w b
 case_number w n (Guard f e) s h = guard_number w n (value f w) h
 case_number w n (Choice l a b) s h = h ∙ chosen_value w (truth (tree_of l) w) a b
 case_number w n (Logic l) s h = h
@@ -79,7 +79,7 @@ number_case p w n (MustMost f) s h = tt
 number_case p w n (MustZero f) s h = tt
 
 -- ---- of all items
-case_of : (w : Assignment) (n : ℕ) (o : Option ℕ) (b : Body) → o ≡ Some n → OfName (λ m. Case w m b) o → Case w n b
+pub case_of : (w : Assignment) (n : ℕ) (o : Option ℕ) (b : Body) → o ≡ Some n → OfName (λ m. Case w m b) o → Case w n b
 case_of w n None b e h = absurd (cc)
 case_of w n (Some m) b e h = let q : m ≡ n = cc in subst (λ (i : ℕ). Case w i b) q h
 

@@ -1,0 +1,10 @@
+pub mod Places
+pub mod Names
+pub mod Columns
+pub mod Parts
+pub mod Texts
+pub mod Moving
+pub mod Along
+pub mod Given
+pub mod Exactness
+pub mod Example

@@ -1,0 +1,5 @@
+pub mod Automata
+pub mod Columns
+pub mod Parts
+pub mod Built
+pub mod Example
