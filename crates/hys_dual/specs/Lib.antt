@@ -1,0 +1,6 @@
+pub mod Listed
+pub mod Standing
+pub mod Ranging
+pub mod Leave
+pub mod Enter
+pub mod Costs
