@@ -33,6 +33,7 @@ system_of rows = record {
   next = alone ∷ [];
   outputs = [];
   rows = rows;
+  labels = codes "d" ∷ codes "d" ∷ [];
   weight = 2;
 }
 
