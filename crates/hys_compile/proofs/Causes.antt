@@ -11,7 +11,7 @@ use Rattle.hys_parse.specs.Depth.{IsFirstDeep}
 use Rattle.hys_parse.specs.Cause.{IsUngrammatical}
 use Rattle.hys_ast.specs.declared.place.Place.{Place}
 use Rattle.hys_type.specs.Faults.{Check, Answers, first_fault}
-use Rattle.hys_type.specs.Checks.{checks, fault_of}
+use Rattle.hys_type.specs.Checks.{checks}
 use Rattle.hys_type.specs.declared.fault.TypeFault.{TypeFault}
 use Rattle.hys_type.specs.declared.fault.TypeFault.TheVariants as typing
 use Rattle.hys_plain.specs.Plain.{IsPlain, unbuilt_place}
@@ -19,7 +19,7 @@ use Rattle.hys_compile.specs.declared.fault.SourceFault.{SourceFault}
 use Rattle.hys_compile.specs.declared.fault.LimitKind.TheVariants as limit
 use Rattle.hys_compile.specs.declared.number.TheConstants as number
 use Rattle.hys_compile.specs.Faults.{fault_at, over_limit, no_memory, shown}
-use Rattle.hys_compile.specs.Text.{most_bytes, most_tokens, most_nodes, most_nodes_of_one, byte_of, IsLexed, IsCounted, IsParsed, IsMeasured, IsTyped, IsCause, IsRefusal, too_long, byte, comment, long, many, deep, syntax, nodes, expression, typed, unbuilt}
+use Rattle.hys_compile.specs.Text.{most_bytes, most_tokens, most_nodes, most_nodes_of_one, byte_of, IsLexed, IsCounted, IsParsed, IsMeasured, IsTyped, IsRanged, IsCause, IsRefusal, too_long, byte, comment, long, many, deep, syntax, nodes, expression, typed, unbuilt}
 
 pub by_bytes : (text : List ℕ) (f : SourceFault) → f ≡ over_limit limit.Bytes → most_bytes < length text → IsRefusal text f
 by_bytes text f e h = inr (subst (IsCause text) (sym e) (too_long h))
@@ -81,5 +81,5 @@ answered {T = T} r e cs i h = let A : Result T TypeFault → Type 0 = λ x. Answ
 pub passes_typing : (text : List ℕ) (tokens : List Token) (tree : Source) → IsMeasured text tokens tree → None ≡ first_fault (checks tree) → IsTyped text tokens tree
 passes_typing text tokens tree h none = record { measured = h; faultless = sym none }
 
-pub by_section : (text : List ℕ) (tokens : List Token) (tree : Source) (place : Place) (f : SourceFault) → f ≡ fault_at number.NOT_YET place → IsTyped text tokens tree → (place ≡ unbuilt_place text tokens) × (IsPlain tokens tree → ⊥) → IsRefusal text f
+pub by_section : (text : List ℕ) (tokens : List Token) (tree : Source) (place : Place) (f : SourceFault) → f ≡ fault_at number.NOT_YET place → IsRanged text tokens tree → (place ≡ unbuilt_place text tokens) × (IsPlain tokens tree → ⊥) → IsRefusal text f
 by_section text tokens tree place f e h (p, other) = inr (subst (IsCause text) (sym (e ∙ ap (fault_at number.NOT_YET) p)) (unbuilt tokens tree h other))

@@ -17,7 +17,7 @@ use Rattle.hys_compile.proofs.Exactly.{plain_exact, plain_weighs}
 use Rattle.hys_compile.proofs.Accepting.{plain_accepted}
 
 -- the largest is at most n where each is
-each_within : (n : ℕ) (es : List Tree) → largest es ≤ n → AllByRecursion (λ e. nodes e ≤ n) es
+pub each_within : (n : ℕ) (es : List Tree) → largest es ≤ n → AllByRecursion (λ e. nodes e ≤ n) es
 each_within n [] h = tt
 each_within n (e ∷ es) h = (omega arith, each_within n es (omega arith))
 

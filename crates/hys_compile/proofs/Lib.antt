@@ -52,3 +52,6 @@ pub mod Usual
 pub mod Faultless
 pub mod OneList
 pub mod PlainOrders
+pub mod GuardSizes
+pub mod Circles
+pub mod Unfit

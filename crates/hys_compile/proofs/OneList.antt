@@ -33,7 +33,7 @@ use Rattle.hys_prog.specs.Orders.{Stands, HasTerm, MentionedIn, SomeItem, Leads,
 use Rattle.hys_order.proofs.Definable.{one_order}
 use Rattle.hys_lin.specs.Ranges.{ranging}
 use Rattle.hys_bound.specs.Ranges.{range, hull, unit, defined_interval, asked, Placed, all_at, place_in, interval_at, asked_at, with_interval, numbers_here, numbers_along, declared_interval, declared, range_numbers}
-use Rattle.hys_type.specs.Translation.{Setting, setting, role_in, IsNameOf, OneByOne, HaveFactors, IsFormOf, else_form, formula, left_kind, IsBodyOf, guard, choice, logic, linear, next_bool, next_real, out_bool, out_real, must_hold, must_most, must_zero, IsItemOf, IsNamedTranslation}
+use Rattle.hys_type.specs.Translation.{Setting, setting, place_if, role_in, IsNameOf, OneByOne, HaveFactors, IsFormOf, else_form, formula, left_kind, IsBodyOf, guard, choice, logic, linear, next_bool, next_real, out_bool, out_real, must_hold, must_most, must_zero, IsItemOf, IsNamedTranslation}
 use Rattle.hys_type.specs.Built.{sparse}
 use Rattle.hys_type.proofs.FormPlaces.{own_column, other_column}
 use Rattle.hys_type.proofs.SparseForms.{no_column, sparse_is}
@@ -140,81 +140,81 @@ only_form : (ns : List Name) (g : Form) (f : Affine) → IsFormOf ns g f → f �
 only_form ns g f a = one_form ns g f (only ns g) a (sparse_is ns g (record { factors = map (λ (n : Name). g.factor n.text) ns; constant = g.constant }) (record { factors = refl; constant = refl }))
 
 -- ---- bodies, by what the source says
-abbrev asked_as : Setting → List Interval → said.Body → List Lost
-asked_as c boxes (said.Guard e t) = ranging boxes (only c.names (guard_form c.names e))
-asked_as c boxes (said.Choice e h o) = ranging boxes (only c.names (form c.names h)) ++ ranging boxes (only c.names (else_form c.names o))
-asked_as c boxes (said.Logic e) = []
-asked_as c boxes (said.Linear e) = ranging boxes (only c.names (form c.names e))
-asked_as c boxes (said.NextBool e) = []
-asked_as c boxes (said.NextReal e) = []
-asked_as c boxes (said.Output e) = []
-asked_as c boxes (said.Must e) = []
-asked_as c boxes said.Nothing = []
+abbrev asked_as : List Name → List Interval → said.Body → List Lost
+asked_as ns boxes (said.Guard e t) = ranging boxes (only ns (guard_form ns e))
+asked_as ns boxes (said.Choice e h o) = ranging boxes (only ns (form ns h)) ++ ranging boxes (only ns (else_form ns o))
+asked_as ns boxes (said.Logic e) = []
+asked_as ns boxes (said.Linear e) = ranging boxes (only ns (form ns e))
+asked_as ns boxes (said.NextBool e) = []
+asked_as ns boxes (said.NextReal e) = []
+asked_as ns boxes (said.Output e) = []
+asked_as ns boxes (said.Must e) = []
+asked_as ns boxes said.Nothing = []
 
-abbrev interval_as : Setting → List Interval → said.Body → Interval
-interval_as c boxes (said.Guard e t) = unit
-interval_as c boxes (said.Choice e h o) = hull (range boxes (only c.names (form c.names h))) (range boxes (only c.names (else_form c.names o)))
-interval_as c boxes (said.Logic e) = unit
-interval_as c boxes (said.Linear e) = range boxes (only c.names (form c.names e))
-interval_as c boxes (said.NextBool e) = unit
-interval_as c boxes (said.NextReal e) = unit
-interval_as c boxes (said.Output e) = unit
-interval_as c boxes (said.Must e) = unit
-interval_as c boxes said.Nothing = unit
+abbrev interval_as : List Name → List Interval → said.Body → Interval
+interval_as ns boxes (said.Guard e t) = unit
+interval_as ns boxes (said.Choice e h o) = hull (range boxes (only ns (form ns h))) (range boxes (only ns (else_form ns o)))
+interval_as ns boxes (said.Logic e) = unit
+interval_as ns boxes (said.Linear e) = range boxes (only ns (form ns e))
+interval_as ns boxes (said.NextBool e) = unit
+interval_as ns boxes (said.NextReal e) = unit
+interval_as ns boxes (said.Output e) = unit
+interval_as ns boxes (said.Must e) = unit
+interval_as ns boxes said.Nothing = unit
 
-abbrev MentionedAs : Setting → ℕ → said.Body → Type 0
-MentionedAs c n (said.Guard e t) = HasTerm n (only c.names (guard_form c.names e)).terms
-MentionedAs c n (said.Choice e h o) = Stands n (formula c.names e) ⊎ (HasTerm n (only c.names (form c.names h)).terms ⊎ HasTerm n (only c.names (else_form c.names o)).terms)
-MentionedAs c n (said.Logic e) = Stands n (formula c.names e)
-MentionedAs c n (said.Linear e) = HasTerm n (only c.names (form c.names e)).terms
-MentionedAs c n (said.NextBool e) = ⊥
-MentionedAs c n (said.NextReal e) = ⊥
-MentionedAs c n (said.Output e) = ⊥
-MentionedAs c n (said.Must e) = ⊥
-MentionedAs c n said.Nothing = ⊥
+abbrev MentionedAs : List Name → ℕ → said.Body → Type 0
+MentionedAs ns n (said.Guard e t) = HasTerm n (only ns (guard_form ns e)).terms
+MentionedAs ns n (said.Choice e h o) = Stands n (formula ns e) ⊎ (HasTerm n (only ns (form ns h)).terms ⊎ HasTerm n (only ns (else_form ns o)).terms)
+MentionedAs ns n (said.Logic e) = Stands n (formula ns e)
+MentionedAs ns n (said.Linear e) = HasTerm n (only ns (form ns e)).terms
+MentionedAs ns n (said.NextBool e) = ⊥
+MentionedAs ns n (said.NextReal e) = ⊥
+MentionedAs ns n (said.Output e) = ⊥
+MentionedAs ns n (said.Must e) = ⊥
+MentionedAs ns n said.Nothing = ⊥
 
-asked_is : (c : Setting) (k : Option Kind) (s : said.Body) (b : Body) (boxes : List Interval) → IsBodyOf c k s b → asked boxes b ≡ asked_as c boxes s
-asked_is c k s b boxes (guard {e = e} {f = f} i j x y) = ap (asked boxes) j ∙ ap (ranging boxes) (only_form c.names (guard_form c.names e) f x) ∙ sym (ap (asked_as c boxes) i)
+asked_is : (c : Setting) (k : Option Kind) (s : said.Body) (b : Body) (boxes : List Interval) → IsBodyOf c k s b → asked boxes b ≡ asked_as c.names boxes s
+asked_is c k s b boxes (guard {e = e} {f = f} i j x y) = ap (asked boxes) j ∙ ap (ranging boxes) (only_form c.names (guard_form c.names e) f x) ∙ sym (ap (asked_as c.names boxes) i)
 asked_is c k s b boxes (choice {e = e} {h = h} {o = o} {l = l} {f = f} {g = g} i j w x y) =
-    ap (asked boxes) j ∙ ap₂ (λ (a d : Affine). ranging boxes a ++ ranging boxes d) (only_form c.names (form c.names h) f x) (only_form c.names (else_form c.names o) g y) ∙ sym (ap (asked_as c boxes) i)
-asked_is c k s b boxes (logic i j x) = ap (asked boxes) j ∙ sym (ap (asked_as c boxes) i)
-asked_is c k s b boxes (linear {e = e} {f = f} i j x) = ap (asked boxes) j ∙ ap (ranging boxes) (only_form c.names (form c.names e) f x) ∙ sym (ap (asked_as c boxes) i)
-asked_is c k s b boxes (next_bool i j x) = ap (asked boxes) j ∙ sym (ap (asked_as c boxes) i)
-asked_is c k s b boxes (next_real i j x) = ap (asked boxes) j ∙ sym (ap (asked_as c boxes) i)
-asked_is c k s b boxes (out_bool q i j x) = ap (asked boxes) j ∙ sym (ap (asked_as c boxes) i)
-asked_is c k s b boxes (out_real q i j x) = ap (asked boxes) j ∙ sym (ap (asked_as c boxes) i)
-asked_is c k s b boxes (must_hold q i j x) = ap (asked boxes) j ∙ sym (ap (asked_as c boxes) i)
-asked_is c k s b boxes (must_most q i j x) = ap (asked boxes) j ∙ sym (ap (asked_as c boxes) i)
-asked_is c k s b boxes (must_zero i j x) = ap (asked boxes) j ∙ sym (ap (asked_as c boxes) i)
+    ap (asked boxes) j ∙ ap₂ (λ (a d : Affine). ranging boxes a ++ ranging boxes d) (only_form c.names (form c.names h) f x) (only_form c.names (else_form c.names o) g y) ∙ sym (ap (asked_as c.names boxes) i)
+asked_is c k s b boxes (logic i j x) = ap (asked boxes) j ∙ sym (ap (asked_as c.names boxes) i)
+asked_is c k s b boxes (linear {e = e} {f = f} i j x) = ap (asked boxes) j ∙ ap (ranging boxes) (only_form c.names (form c.names e) f x) ∙ sym (ap (asked_as c.names boxes) i)
+asked_is c k s b boxes (next_bool i j x) = ap (asked boxes) j ∙ sym (ap (asked_as c.names boxes) i)
+asked_is c k s b boxes (next_real i j x) = ap (asked boxes) j ∙ sym (ap (asked_as c.names boxes) i)
+asked_is c k s b boxes (out_bool q i j x) = ap (asked boxes) j ∙ sym (ap (asked_as c.names boxes) i)
+asked_is c k s b boxes (out_real q i j x) = ap (asked boxes) j ∙ sym (ap (asked_as c.names boxes) i)
+asked_is c k s b boxes (must_hold q i j x) = ap (asked boxes) j ∙ sym (ap (asked_as c.names boxes) i)
+asked_is c k s b boxes (must_most q i j x) = ap (asked boxes) j ∙ sym (ap (asked_as c.names boxes) i)
+asked_is c k s b boxes (must_zero i j x) = ap (asked boxes) j ∙ sym (ap (asked_as c.names boxes) i)
 
-interval_is : (c : Setting) (k : Option Kind) (s : said.Body) (b : Body) (boxes : List Interval) → IsBodyOf c k s b → defined_interval boxes b ≡ interval_as c boxes s
-interval_is c k s b boxes (guard i j x y) = ap (defined_interval boxes) j ∙ sym (ap (interval_as c boxes) i)
+interval_is : (c : Setting) (k : Option Kind) (s : said.Body) (b : Body) (boxes : List Interval) → IsBodyOf c k s b → defined_interval boxes b ≡ interval_as c.names boxes s
+interval_is c k s b boxes (guard i j x y) = ap (defined_interval boxes) j ∙ sym (ap (interval_as c.names boxes) i)
 interval_is c k s b boxes (choice {e = e} {h = h} {o = o} {l = l} {f = f} {g = g} i j w x y) =
-    ap (defined_interval boxes) j ∙ ap₂ (λ (a d : Affine). hull (range boxes a) (range boxes d)) (only_form c.names (form c.names h) f x) (only_form c.names (else_form c.names o) g y) ∙ sym (ap (interval_as c boxes) i)
-interval_is c k s b boxes (logic i j x) = ap (defined_interval boxes) j ∙ sym (ap (interval_as c boxes) i)
-interval_is c k s b boxes (linear {e = e} {f = f} i j x) = ap (defined_interval boxes) j ∙ ap (range boxes) (only_form c.names (form c.names e) f x) ∙ sym (ap (interval_as c boxes) i)
-interval_is c k s b boxes (next_bool i j x) = ap (defined_interval boxes) j ∙ sym (ap (interval_as c boxes) i)
-interval_is c k s b boxes (next_real i j x) = ap (defined_interval boxes) j ∙ sym (ap (interval_as c boxes) i)
-interval_is c k s b boxes (out_bool q i j x) = ap (defined_interval boxes) j ∙ sym (ap (interval_as c boxes) i)
-interval_is c k s b boxes (out_real q i j x) = ap (defined_interval boxes) j ∙ sym (ap (interval_as c boxes) i)
-interval_is c k s b boxes (must_hold q i j x) = ap (defined_interval boxes) j ∙ sym (ap (interval_as c boxes) i)
-interval_is c k s b boxes (must_most q i j x) = ap (defined_interval boxes) j ∙ sym (ap (interval_as c boxes) i)
-interval_is c k s b boxes (must_zero i j x) = ap (defined_interval boxes) j ∙ sym (ap (interval_as c boxes) i)
+    ap (defined_interval boxes) j ∙ ap₂ (λ (a d : Affine). hull (range boxes a) (range boxes d)) (only_form c.names (form c.names h) f x) (only_form c.names (else_form c.names o) g y) ∙ sym (ap (interval_as c.names boxes) i)
+interval_is c k s b boxes (logic i j x) = ap (defined_interval boxes) j ∙ sym (ap (interval_as c.names boxes) i)
+interval_is c k s b boxes (linear {e = e} {f = f} i j x) = ap (defined_interval boxes) j ∙ ap (range boxes) (only_form c.names (form c.names e) f x) ∙ sym (ap (interval_as c.names boxes) i)
+interval_is c k s b boxes (next_bool i j x) = ap (defined_interval boxes) j ∙ sym (ap (interval_as c.names boxes) i)
+interval_is c k s b boxes (next_real i j x) = ap (defined_interval boxes) j ∙ sym (ap (interval_as c.names boxes) i)
+interval_is c k s b boxes (out_bool q i j x) = ap (defined_interval boxes) j ∙ sym (ap (interval_as c.names boxes) i)
+interval_is c k s b boxes (out_real q i j x) = ap (defined_interval boxes) j ∙ sym (ap (interval_as c.names boxes) i)
+interval_is c k s b boxes (must_hold q i j x) = ap (defined_interval boxes) j ∙ sym (ap (interval_as c.names boxes) i)
+interval_is c k s b boxes (must_most q i j x) = ap (defined_interval boxes) j ∙ sym (ap (interval_as c.names boxes) i)
+interval_is c k s b boxes (must_zero i j x) = ap (defined_interval boxes) j ∙ sym (ap (interval_as c.names boxes) i)
 
-mention_is : (c : Setting) (k : Option Kind) (s : said.Body) (b : Body) (n : ℕ) → IsBodyOf c k s b → MentionedIn n b ≡ MentionedAs c n s
-mention_is c k s b n (guard {e = e} {f = f} i j x y) = ap (MentionedIn n) j ∙ ap (λ (a : Affine). HasTerm n a.terms) (only_form c.names (guard_form c.names e) f x) ∙ sym (ap (MentionedAs c n) i)
+mention_is : (c : Setting) (k : Option Kind) (s : said.Body) (b : Body) (n : ℕ) → IsBodyOf c k s b → MentionedIn n b ≡ MentionedAs c.names n s
+mention_is c k s b n (guard {e = e} {f = f} i j x y) = ap (MentionedIn n) j ∙ ap (λ (a : Affine). HasTerm n a.terms) (only_form c.names (guard_form c.names e) f x) ∙ sym (ap (MentionedAs c.names n) i)
 mention_is c k s b n (choice {e = e} {h = h} {o = o} {l = l} {f = f} {g = g} i j w x y) =
     ap (MentionedIn n) j ∙ ap (λ t. Stands n t ⊎ (HasTerm n f.terms ⊎ HasTerm n g.terms)) w
-    ∙ ap₂ (λ (a d : Affine). Stands n (formula c.names e) ⊎ (HasTerm n a.terms ⊎ HasTerm n d.terms)) (only_form c.names (form c.names h) f x) (only_form c.names (else_form c.names o) g y) ∙ sym (ap (MentionedAs c n) i)
-mention_is c k s b n (logic i j x) = ap (MentionedIn n) j ∙ ap (Stands n) x ∙ sym (ap (MentionedAs c n) i)
-mention_is c k s b n (linear {e = e} {f = f} i j x) = ap (MentionedIn n) j ∙ ap (λ (a : Affine). HasTerm n a.terms) (only_form c.names (form c.names e) f x) ∙ sym (ap (MentionedAs c n) i)
-mention_is c k s b n (next_bool i j x) = ap (MentionedIn n) j ∙ sym (ap (MentionedAs c n) i)
-mention_is c k s b n (next_real i j x) = ap (MentionedIn n) j ∙ sym (ap (MentionedAs c n) i)
-mention_is c k s b n (out_bool q i j x) = ap (MentionedIn n) j ∙ sym (ap (MentionedAs c n) i)
-mention_is c k s b n (out_real q i j x) = ap (MentionedIn n) j ∙ sym (ap (MentionedAs c n) i)
-mention_is c k s b n (must_hold q i j x) = ap (MentionedIn n) j ∙ sym (ap (MentionedAs c n) i)
-mention_is c k s b n (must_most q i j x) = ap (MentionedIn n) j ∙ sym (ap (MentionedAs c n) i)
-mention_is c k s b n (must_zero i j x) = ap (MentionedIn n) j ∙ sym (ap (MentionedAs c n) i)
+    ∙ ap₂ (λ (a d : Affine). Stands n (formula c.names e) ⊎ (HasTerm n a.terms ⊎ HasTerm n d.terms)) (only_form c.names (form c.names h) f x) (only_form c.names (else_form c.names o) g y) ∙ sym (ap (MentionedAs c.names n) i)
+mention_is c k s b n (logic i j x) = ap (MentionedIn n) j ∙ ap (Stands n) x ∙ sym (ap (MentionedAs c.names n) i)
+mention_is c k s b n (linear {e = e} {f = f} i j x) = ap (MentionedIn n) j ∙ ap (λ (a : Affine). HasTerm n a.terms) (only_form c.names (form c.names e) f x) ∙ sym (ap (MentionedAs c.names n) i)
+mention_is c k s b n (next_bool i j x) = ap (MentionedIn n) j ∙ sym (ap (MentionedAs c.names n) i)
+mention_is c k s b n (next_real i j x) = ap (MentionedIn n) j ∙ sym (ap (MentionedAs c.names n) i)
+mention_is c k s b n (out_bool q i j x) = ap (MentionedIn n) j ∙ sym (ap (MentionedAs c.names n) i)
+mention_is c k s b n (out_real q i j x) = ap (MentionedIn n) j ∙ sym (ap (MentionedAs c.names n) i)
+mention_is c k s b n (must_hold q i j x) = ap (MentionedIn n) j ∙ sym (ap (MentionedAs c.names n) i)
+mention_is c k s b n (must_most q i j x) = ap (MentionedIn n) j ∙ sym (ap (MentionedAs c.names n) i)
+mention_is c k s b n (must_zero i j x) = ap (MentionedIn n) j ∙ sym (ap (MentionedAs c.names n) i)
 
 -- ---- items
 -- one by one with the same names, operations, intervals and mentions
@@ -224,25 +224,25 @@ record AreLike (t u : ProgItem) : Type 1 where
   finds : (boxes : List Interval) → defined_interval boxes t.body ≡ defined_interval boxes u.body
   mentions : (n : ℕ) → MentionedIn n t.body ≡ MentionedIn n u.body
 
-like : (c : Setting) (i : Item) (t u : ProgItem) → IsItemOf c i t → IsItemOf c i u → AreLike t u
-like c i t u h k = record {
-  name = h.name ∙ sym k.name;
-  asks = λ boxes. asked_is c (left_kind c.names i.name) (body i) t.body boxes h.body ∙ sym (asked_is c (left_kind c.names i.name) (body i) u.body boxes k.body);
-  finds = λ boxes. interval_is c (left_kind c.names i.name) (body i) t.body boxes h.body ∙ sym (interval_is c (left_kind c.names i.name) (body i) u.body boxes k.body);
-  mentions = λ n. mention_is c (left_kind c.names i.name) (body i) t.body n h.body ∙ sym (mention_is c (left_kind c.names i.name) (body i) u.body n k.body);
+like : (c d : Setting) (i : Item) (t u : ProgItem) → c.names ≡ d.names → IsItemOf c i t → IsItemOf d i u → AreLike t u
+like c d i t u e h k = record {
+  name = h.name ∙ ap (λ ns. place_if ns i.name) e ∙ sym k.name;
+  asks = λ boxes. asked_is c (left_kind c.names i.name) (body i) t.body boxes h.body ∙ ap (λ ns. asked_as ns boxes (body i)) e ∙ sym (asked_is d (left_kind d.names i.name) (body i) u.body boxes k.body);
+  finds = λ boxes. interval_is c (left_kind c.names i.name) (body i) t.body boxes h.body ∙ ap (λ ns. interval_as ns boxes (body i)) e ∙ sym (interval_is d (left_kind d.names i.name) (body i) u.body boxes k.body);
+  mentions = λ n. mention_is c (left_kind c.names i.name) (body i) t.body n h.body ∙ ap (λ ns. MentionedAs ns n (body i)) e ∙ sym (mention_is d (left_kind d.names i.name) (body i) u.body n k.body);
 }
 
 data AllLike : List ProgItem → List ProgItem → Type 1 where
   none : AllLike [] []
   more : {t u : ProgItem} {ts us : List ProgItem} → AreLike t u → AllLike ts us → AllLike (t ∷ ts) (u ∷ us)
 
-all_like : (c : Setting) (is : List Item) (ts us : List ProgItem) → OneByOne (IsItemOf c) is ts → OneByOne (IsItemOf c) is us → AllLike ts us
-all_like c [] [] [] h k = none
-all_like c [] [] (u ∷ us) h k = absurd k
-all_like c [] (t ∷ ts) us h k = absurd h
-all_like c (i ∷ is) [] us h k = absurd h
-all_like c (i ∷ is) (t ∷ ts) [] h k = absurd k
-all_like c (i ∷ is) (t ∷ ts) (u ∷ us) h k = more (like c i t u h.0 k.0) (all_like c is ts us h.1 k.1)
+all_like : (c d : Setting) (is : List Item) (ts us : List ProgItem) → c.names ≡ d.names → OneByOne (IsItemOf c) is ts → OneByOne (IsItemOf d) is us → AllLike ts us
+all_like c d [] [] [] e h k = none
+all_like c d [] [] (u ∷ us) e h k = absurd k
+all_like c d [] (t ∷ ts) us e h k = absurd h
+all_like c d (i ∷ is) [] us e h k = absurd h
+all_like c d (i ∷ is) (t ∷ ts) [] e h k = absurd k
+all_like c d (i ∷ is) (t ∷ ts) (u ∷ us) e h k = more (like c d i t u e h.0 k.0) (all_like c d is ts us e h.1 k.1)
 
 place_same : (ts us : List ProgItem) (n : ℕ) → AllLike ts us → place_in ts n ≡ place_in us n
 place_same _ _ n none = refl
@@ -354,9 +354,9 @@ order_like p q taken (n ∷ ns) l e h = (
 )
 
 -- ---- programs
-pub same_numbers : (tolerance : Number) (s : Source) (p q : Program) (o r : Order) → IsNamedTranslation tolerance s p → IsNamedTranslation tolerance s q → IsOrder p o → IsOrder q r → range_numbers p o ≡ range_numbers q r
-same_numbers tolerance s p q o r h k i j =
-    let l : AllLike p.items q.items = all_like (setting tolerance s) s.items p.items q.items h.items k.items in
+pub same_numbers : (tolerance other : Number) (s : Source) (p q : Program) (o r : Order) → IsNamedTranslation tolerance s p → IsNamedTranslation other s q → IsOrder p o → IsOrder q r → range_numbers p o ≡ range_numbers q r
+same_numbers tolerance other s p q o r h k i j =
+    let l : AllLike p.items q.items = all_like (setting tolerance s) (setting other s) s.items p.items q.items refl h.items k.items in
     let e : places is_auxiliary p ≡ places is_auxiliary q = places_same (parameters s.decls) 0 s.decls p.names q.names h.names k.names in
     let names : o.names ≡ r.names = one_order q o r (order_like p q [] o.names l e i) j in
     along_same p.items q.items o.names (declared p.names) l

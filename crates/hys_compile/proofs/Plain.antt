@@ -1,5 +1,5 @@
 -- A plain text has no cause to be refused.
-use Rattle.std.proofs.Common.{◌≡◌, ℕ, ◌<◌, List, length, Some, None, sym, ◌∙◌, ap, subst, arith}
+use Rattle.std.proofs.Common.{◌≡◌, ℕ, ◌<◌, List, [], length, Some, None, sym, ◌∙◌, ap, subst, arith}
 use Rattle.hys_lex.specs.Cut.{Cut, IsFirstFault}
 use Rattle.hys_lex.specs.declared.token.Token.{Token}
 use Rattle.hys_lex.specs.declared.cut.LexFault.{LexFault}
@@ -10,11 +10,18 @@ use Rattle.hys_ast.specs.Nodes.{expressions, total, largest}
 use Rattle.hys_parse.specs.Depth.{IsFirstDeep}
 use Rattle.hys_parse.specs.Cause.{IsUngrammatical}
 use Rattle.hys_type.specs.Checks.{fault_of}
-use Rattle.hys_type.specs.declared.fault.TypeFault.{TypeFault}
 use Rattle.hys_plain.specs.Plain.{IsPlain}
+use Rattle.hys_meaning.specs.Accepted.{Accepted}
+use Rattle.hys_meaning.specs.Circular.{Circular}
+use Rattle.hys_meaning.specs.Unfolded.{unfolded}
+use Rattle.hys_bound.specs.Ranges.{first_unfit}
+use Rattle.hys_compile.proofs.Accepting.{plain_accepted}
+use Rattle.hys_compile.proofs.Compiled.{each_within}
 use Rattle.hys_compile.proofs.Faultless.{plain_passes_checks}
+use Rattle.hys_compile.proofs.PlainOrders.{plain_numbers}
+use Rattle.hys_compile.specs.Sources.{AreRangeNumbers}
 use Rattle.hys_compile.specs.declared.fault.SourceFault.{SourceFault}
-use Rattle.hys_compile.specs.Text.{most_tokens, most_nodes, most_nodes_of_one, IsLexed, IsParsed, IsMeasured, IsCause, too_long, byte, comment, long, many, deep, syntax, nodes, expression, typed, unbuilt}
+use Rattle.hys_compile.specs.Text.{most_tokens, most_nodes, most_nodes_of_one, IsLexed, IsParsed, IsMeasured, IsCause, too_long, byte, comment, long, many, deep, syntax, nodes, expression, typed, cycle, interval, unbuilt}
 
 -- what holds of cuts and trees
 pub record AreOnly (text : List ℕ) : Type 0 where
@@ -61,7 +68,19 @@ plain_passes text tokens tree f only m plain (typed ts t fault h found) =
     let s : t ≡ tree = same_tree text ts tokens t tree only h.parsed m.parsed e in
     let same : Some fault ≡ None = sym found ∙ ap fault_of s ∙ plain_passes_checks tokens tree plain in
     absurd (cc)
+plain_passes text tokens tree f only m plain (cycle g c) =
+    let e : c.tokens ≡ tokens = same_cut text c.tokens tokens only c.typed.measured.parsed.counted.lexed m.parsed.counted.lexed in
+    let s : c.tree ≡ tree = same_tree text c.tokens tokens c.tree tree only c.typed.measured.parsed m.parsed e in
+    let a : Accepted tree = plain_accepted tokens tree plain m.nodes (each_within 1000 (expressions tree) m.expression) in
+    absurd (a.rules.orders c.circle (subst (λ (z : Source). Circular (unfolded z) c.circle) s c.circular))
+plain_passes text tokens tree f only m plain (interval ts t numbers lost place h ranges found stands) =
+    let e : ts ≡ tokens = same_cut text ts tokens only h.typed.measured.parsed.counted.lexed m.parsed.counted.lexed in
+    let s : t ≡ tree = same_tree text ts tokens t tree only h.typed.measured.parsed m.parsed e in
+    let r : AreRangeNumbers tree numbers = subst (λ (z : Source). AreRangeNumbers z numbers) s ranges in
+    let none : numbers ≡ [] = r.same ∙ plain_numbers r.translation.tolerance tokens tree r.program r.order plain r.translation.translation r.ordered in
+    let same : None ≡ Some lost = sym (ap first_unfit none) ∙ found in
+    absurd (cc)
 plain_passes text tokens tree f only m plain (unbuilt ts t h other) =
-    let e : ts ≡ tokens = same_cut text ts tokens only h.measured.parsed.counted.lexed m.parsed.counted.lexed in
-    let s : t ≡ tree = same_tree text ts tokens t tree only h.measured.parsed m.parsed e in
+    let e : ts ≡ tokens = same_cut text ts tokens only h.ordered.typed.measured.parsed.counted.lexed m.parsed.counted.lexed in
+    let s : t ≡ tree = same_tree text ts tokens t tree only h.ordered.typed.measured.parsed m.parsed e in
     absurd (other (subst (λ z. IsPlain z t) (sym e) (subst (λ z. IsPlain tokens z) (sym s) plain)))

@@ -1,18 +1,14 @@
 -- A plain source has no auxiliaries: no interval is looked for along an order of its translation.
-use Rattle.std.proofs.Common.{◌≡◌, ℕ, suc, List, [], ◌∷◌, Bool, true, false, cond, IsTrue, refl, sym, ◌∙◌, ap, ap₂, subst}
+use Rattle.std.proofs.Common.{◌≡◌, ℕ, suc, List, [], ◌∷◌, Bool, false, cond, IsTrue, refl, ◌∙◌, ap, subst}
 use Rattle.std.specs.List.{AllByRecursion}
 use Rattle.hys_number.specs.Number.{Number}
 use Rattle.hys_lex.specs.declared.token.Token.{Token}
-use Rattle.hys_ast.specs.declared.source.Section.{Section}
-use Rattle.hys_ast.specs.declared.source.Section.TheVariants as section
 use Rattle.hys_ast.specs.Tree.{Decl, Source}
 use Rattle.hys_meaning.specs.Values.{Assignment}
 use Rattle.hys_meaning.specs.Names.{parameters}
 use Rattle.hys_meaning.proofs.Guardless.{same}
 use Rattle.hys_plain.specs.Plain.{IsPlain, is_plain_decl}
-use Rattle.hys_prog.specs.declared.program.Role.{Role}
 use Rattle.hys_prog.specs.declared.program.Name.{Name as ProgName}
-use Rattle.hys_prog.specs.declared.program.ProgItem.{ProgItem}
 use Rattle.hys_prog.specs.declared.program.Program.{Program}
 use Rattle.hys_prog.specs.declared.program.Order.{Order}
 use Rattle.hys_prog.specs.Steps.{places, places_from, is_auxiliary}

@@ -1,9 +1,10 @@
 -- The causes of a text by the stage at which it is refused: at most one stage stands.
-use Rattle.std.proofs.Common.{◌≡◌, ℕ, ◌<◌, ◌≤◌, ◌⊎◌, List, length, Some, None, refl, sym, subst, ◌∙◌, inl, inr, arith}
+use Rattle.std.proofs.Common.{◌≡◌, ℕ, ◌<◌, ◌≤◌, ◌⊎◌, List, length, Some, None, refl, sym, ap₂, subst, ◌∙◌, inl, inr, arith}
 use Rattle.hys_lex.specs.Cut.{Cut, IsFirstFault}
 use Rattle.hys_lex.specs.declared.token.Token.{Token}
 use Rattle.hys_lex.specs.declared.cut.LexFault.{LexFault}
 use Rattle.hys_lex.specs.declared.cut.LexFault.TheVariants as lexing
+use Rattle.hys_ast.specs.declared.place.Place.{Place}
 use Rattle.hys_ast.specs.Tree.{Source}
 use Rattle.hys_ast.specs.Places.{place_at}
 use Rattle.hys_ast.specs.Grammar.{IsTreeOf}
@@ -12,13 +13,18 @@ use Rattle.hys_parse.specs.Depth.{IsFirstDeep, IsShallow}
 use Rattle.hys_parse.specs.Cause.{IsUngrammatical}
 use Rattle.hys_type.specs.Checks.{fault_of}
 use Rattle.hys_type.specs.declared.fault.TypeFault.{TypeFault}
+use Rattle.hys_meaning.specs.Circular.{Circular}
+use Rattle.hys_meaning.specs.Unfolded.{unfolded}
+use Rattle.hys_bound.specs.Ranges.{Placed, first_unfit}
 use Rattle.hys_plain.specs.Plain.{IsPlain, unbuilt_place}
 use Rattle.hys_compile.specs.declared.fault.SourceFault.{SourceFault}
 use Rattle.hys_compile.specs.declared.fault.LimitKind.TheVariants as limit
 use Rattle.hys_compile.specs.declared.number.TheConstants as number
-use Rattle.hys_compile.specs.Faults.{fault_at, over_limit, no_memory, shown}
-use Rattle.hys_compile.specs.Text.{most_bytes, most_tokens, most_nodes, most_nodes_of_one, byte_of, IsCause, too_long, byte, comment, long, many, deep, syntax, nodes, expression, typed, unbuilt}
+use Rattle.hys_compile.specs.Faults.{fault_at, over_limit, no_memory, shown, range_fault}
+use Rattle.hys_compile.specs.Sources.{StandsAt, AreRangeNumbers}
+use Rattle.hys_compile.specs.Text.{most_bytes, most_tokens, most_nodes, most_nodes_of_one, byte_of, IsMeasured, IsCircle, IsSameCause, IsCause, too_long, byte, comment, long, many, deep, syntax, nodes, expression, typed, cycle, interval, unbuilt}
 use Rattle.hys_compile.proofs.Plain.{AreOnly}
+use Rattle.hys_compile.proofs.Unfit.{same_ranges, one_place}
 
 lexical : List ℕ → LexFault → SourceFault
 lexical text (lexing.Byte at) = fault_at number.BYTE (place_at text at)
@@ -30,8 +36,18 @@ lexical text lexing.Memory = no_memory
 abbrev Judged : List ℕ → List Token → Source → SourceFault → Type 0
 Judged text ts t f = ¬ (IsPlain ts t) × (f ≡ fault_at number.NOT_YET (unbuilt_place text ts))
 
+-- the place at which an item stands, with a number of it that doesn't fit
+abbrev Unfit : Source → List Placed → SourceFault → Type 0
+Unfit t numbers f = (lost : Placed) × (place : Place) × (first_unfit numbers ≡ Some lost) × StandsAt (unfolded t).items lost.item place × (f ≡ range_fault place lost.what)
+
+abbrev Ranged : List ℕ → List Token → Source → SourceFault → Type 0
+Ranged text ts t f = (numbers : List Placed) × AreRangeNumbers t numbers × (Unfit t numbers f ⊎ ((first_unfit numbers ≡ None) × Judged text ts t f))
+
+abbrev Ordered : List ℕ → List Token → Source → SourceFault → Type 0
+Ordered text ts t f = ((ns : List (List ℕ)) × Circular (unfolded t) ns × IsCircle text f) ⊎ (((ns : List (List ℕ)) → ¬ (Circular (unfolded t) ns)) × Ranged text ts t f)
+
 abbrev Typed : List ℕ → List Token → Source → SourceFault → Type 0
-Typed text ts t f = ((e : TypeFault) × (fault_of t ≡ Some e) × (f ≡ shown e)) ⊎ ((fault_of t ≡ None) × Judged text ts t f)
+Typed text ts t f = ((e : TypeFault) × (fault_of t ≡ Some e) × (f ≡ shown e)) ⊎ ((fault_of t ≡ None) × Ordered text ts t f)
 
 abbrev Sized : List ℕ → List Token → Source → SourceFault → Type 0
 Sized text ts t f = ((most_nodes_of_one < largest (expressions t)) × (f ≡ over_limit limit.Expression)) ⊎ ((largest (expressions t) ≤ most_nodes_of_one) × Typed text ts t f)
@@ -54,6 +70,11 @@ Lexed text f = ((e : LexFault) × IsFirstFault text e × (f ≡ lexical text e))
 abbrev Read : List ℕ → SourceFault → Type 0
 Read text f = ((most_bytes < length text) × (f ≡ over_limit limit.Bytes)) ⊎ ((length text ≤ most_bytes) × Lexed text f)
 
+-- a text that passes all stages up to the measure of its tree
+from_measured : (text : List ℕ) (ts : List Token) (t : Source) (f : SourceFault) → IsMeasured text ts t → Typed text ts t f → Read text f
+from_measured text ts t f m r =
+    inr (m.parsed.counted.lexed.bytes, inr (ts, m.parsed.counted.lexed.cut, inr (m.parsed.counted.few, inr (m.parsed.shallow, inr (t, m.parsed.derived, inr (m.nodes, inr (m.expression, r)))))))
+
 staged : (text : List ℕ) (f : SourceFault) → IsCause text f → Read text f
 unfolding lexical
 staged text f (too_long more) = inl (more, refl)
@@ -66,83 +87,97 @@ staged text f (syntax ts k h u) = inr (h.lexed.bytes, inr (ts, h.lexed.cut, inr 
 staged text f (nodes ts t h more) = inr (h.counted.lexed.bytes, inr (ts, h.counted.lexed.cut, inr (h.counted.few, inr (h.shallow, inr (t, h.derived, inl (more, refl))))))
 staged text f (expression ts t h few more) =
     inr (h.counted.lexed.bytes, inr (ts, h.counted.lexed.cut, inr (h.counted.few, inr (h.shallow, inr (t, h.derived, inr (few, inl (more, refl)))))))
-staged text f (typed ts t e h found) =
-    inr (h.parsed.counted.lexed.bytes, inr (ts, h.parsed.counted.lexed.cut, inr (h.parsed.counted.few, inr (h.parsed.shallow, inr (t, h.parsed.derived, inr (h.nodes, inr (h.expression, inl (e, found, refl))))))))
+staged text f (typed ts t e h found) = from_measured text ts t (shown e) h (inl (e, found, refl))
+staged text f (cycle g c) =
+    from_measured text c.tokens c.tree g c.typed.measured (inr (c.typed.faultless, inl (c.circle, c.circular, c)))
+staged text f (interval ts t numbers lost place h ranges found stands) =
+    from_measured text ts t (range_fault place lost.what) h.typed.measured
+    (inr (h.typed.faultless, inr (h.orders, (numbers, ranges, inl (lost, place, found, stands, refl)))))
 staged text f (unbuilt ts t h other) =
-    inr (
-      h.measured.parsed.counted.lexed.bytes,
-      inr (
-        ts,
-        h.measured.parsed.counted.lexed.cut,
-        inr (
-          h.measured.parsed.counted.few,
-          inr (
-            h.measured.parsed.shallow,
-            inr (
-              t,
-              h.measured.parsed.derived,
-              inr (h.measured.nodes, inr (h.measured.expression, inr (h.faultless, (other, refl)))),
-            ),
-          ),
-        ),
-      ),
-    )
+    from_measured text ts t (fault_at number.NOT_YET (unbuilt_place text ts)) h.ordered.typed.measured
+    (inr (h.ordered.typed.faultless, inr (h.ordered.orders, (h.numbers, h.ranges, inr (h.fit, (other, refl))))))
 
 -- ---- two faults at each stage
-same : (f g h : SourceFault) → f ≡ h → g ≡ h → f ≡ g
-same f g h a b = a ∙ sym b
+same : (text : List ℕ) (f g h : SourceFault) → f ≡ h → g ≡ h → IsSameCause text f g
+same text f g h a b = inl (a ∙ sym b)
 
 some_fault : (e d : TypeFault) → Some e ≡ Some d → e ≡ d
 some_fault e d h = cc
 
-typed_alike : (text : List ℕ) (ts : List Token) (t : Source) (f g : SourceFault) → Typed text ts t f → Typed text ts t g → f ≡ g
-typed_alike text ts t f g (inl (e, m, a)) (inl (d, n, b)) = same f g (shown e) a (subst (λ x. g ≡ shown x) (some_fault d e (sym n ∙ m)) b)
+some_placed : (e d : Placed) → Some e ≡ Some d → e ≡ d
+some_placed e d h = cc
+
+unfit_alike : (text : List ℕ) (t : Source) (numbers : List Placed) (f g : SourceFault) → Unfit t numbers f → Unfit t numbers g → IsSameCause text f g
+unfit_alike text t numbers f g (c, p, m, x, a) (d, q, n, y, b) =
+    let e : d ≡ c = some_placed d c (sym n ∙ m) in
+    let z : q ≡ p = one_place (unfolded t).items c.item q p (subst (λ (l : Placed). StandsAt (unfolded t).items l.item q) e y) x in
+    same text f g (range_fault p c.what) a (b ∙ ap₂ (λ (r : Place) (l : Placed). range_fault r l.what) z e)
+
+fit_alike : (text : List ℕ) (ts : List Token) (t : Source) (numbers : List Placed) (f g : SourceFault) → Unfit t numbers f ⊎ ((first_unfit numbers ≡ None) × Judged text ts t f) →
+    Unfit t numbers g ⊎ ((first_unfit numbers ≡ None) × Judged text ts t g) → IsSameCause text f g
+fit_alike text ts t numbers f g (inl a) (inl b) = unfit_alike text t numbers f g a b
+fit_alike text ts t numbers f g (inl (c, p, m, x, a)) (inr (n, b)) = let no : Some c ≡ None = sym m ∙ n in absurd (cc)
+fit_alike text ts t numbers f g (inr (m, a)) (inl (d, q, n, y, b)) = let no : Some d ≡ None = sym n ∙ m in absurd (cc)
+fit_alike text ts t numbers f g (inr (m, (p, a))) (inr (n, (q, b))) = same text f g (fault_at number.NOT_YET (unbuilt_place text ts)) a b
+
+ranged_alike : (text : List ℕ) (ts : List Token) (t : Source) (f g : SourceFault) → Ranged text ts t f → Ranged text ts t g → IsSameCause text f g
+ranged_alike text ts t f g (xs, x, a) (ys, y, b) =
+    fit_alike text ts t xs f g a (subst (λ (zs : List Placed). Unfit t zs g ⊎ ((first_unfit zs ≡ None) × Judged text ts t g)) (same_ranges t ys xs y x) b)
+
+ordered_alike : (text : List ℕ) (ts : List Token) (t : Source) (f g : SourceFault) → Ordered text ts t f → Ordered text ts t g → IsSameCause text f g
+ordered_alike text ts t f g (inl (ns, c, a)) (inl (ms, d, b)) = inr (a, b)
+ordered_alike text ts t f g (inl (ns, c, a)) (inr (none, b)) = absurd (none ns c)
+ordered_alike text ts t f g (inr (none, a)) (inl (ms, d, b)) = absurd (none ms d)
+ordered_alike text ts t f g (inr (n, a)) (inr (m, b)) = ranged_alike text ts t f g a b
+
+typed_alike : (text : List ℕ) (ts : List Token) (t : Source) (f g : SourceFault) → Typed text ts t f → Typed text ts t g → IsSameCause text f g
+typed_alike text ts t f g (inl (e, m, a)) (inl (d, n, b)) = same text f g (shown e) a (subst (λ x. g ≡ shown x) (some_fault d e (sym n ∙ m)) b)
 typed_alike text ts t f g (inl (e, m, a)) (inr (n, b)) = let no : Some e ≡ None = sym m ∙ n in absurd (cc)
 typed_alike text ts t f g (inr (m, a)) (inl (d, n, b)) = let no : Some d ≡ None = sym n ∙ m in absurd (cc)
-typed_alike text ts t f g (inr (m, (p, a))) (inr (n, (q, b))) = same f g (fault_at number.NOT_YET (unbuilt_place text ts)) a b
+typed_alike text ts t f g (inr (m, a)) (inr (n, b)) = ordered_alike text ts t f g a b
 
-sized : (text : List ℕ) (ts : List Token) (t : Source) (f g : SourceFault) → Sized text ts t f → Sized text ts t g → f ≡ g
-sized text ts t f g (inl (m, a)) (inl (n, b)) = same f g (over_limit limit.Expression) a b
+sized : (text : List ℕ) (ts : List Token) (t : Source) (f g : SourceFault) → Sized text ts t f → Sized text ts t g → IsSameCause text f g
+sized text ts t f g (inl (m, a)) (inl (n, b)) = same text f g (over_limit limit.Expression) a b
 sized text ts t f g (inl (m, a)) (inr (n, b)) = absurd (omega arith)
 sized text ts t f g (inr (m, a)) (inl (n, b)) = absurd (omega arith)
 sized text ts t f g (inr (m, a)) (inr (n, b)) = typed_alike text ts t f g a b
 
-measured : (text : List ℕ) (ts : List Token) (t : Source) (f g : SourceFault) → Measured text ts t f → Measured text ts t g → f ≡ g
-measured text ts t f g (inl (m, a)) (inl (n, b)) = same f g (over_limit limit.Nodes) a b
+measured : (text : List ℕ) (ts : List Token) (t : Source) (f g : SourceFault) → Measured text ts t f → Measured text ts t g → IsSameCause text f g
+measured text ts t f g (inl (m, a)) (inl (n, b)) = same text f g (over_limit limit.Nodes) a b
 measured text ts t f g (inl (m, a)) (inr (n, b)) = absurd (omega arith)
 measured text ts t f g (inr (m, a)) (inl (n, b)) = absurd (omega arith)
 measured text ts t f g (inr (m, a)) (inr (n, b)) = sized text ts t f g a b
 
-parsed : (text : List ℕ) (ts : List Token) (f g : SourceFault) → AreOnly text → Parsed text ts f → Parsed text ts g → f ≡ g
+parsed : (text : List ℕ) (ts : List Token) (f g : SourceFault) → AreOnly text → Parsed text ts f → Parsed text ts g → IsSameCause text f g
 parsed text ts f g only (inl (k, m, a)) (inl (j, n, b)) =
-    same f g (fault_at number.SYNTAX (place_at text (byte_of text ts k))) a (subst (λ i. g ≡ fault_at number.SYNTAX (place_at text (byte_of text ts i))) (only.stuck ts j k n m) b)
+    same text f g (fault_at number.SYNTAX (place_at text (byte_of text ts k))) a (subst (λ i. g ≡ fault_at number.SYNTAX (place_at text (byte_of text ts i))) (only.stuck ts j k n m) b)
 parsed text ts f g only (inl (k, m, a)) (inr (t, d, b)) = absurd (m.none t d)
 parsed text ts f g only (inr (t, d, a)) (inl (j, n, b)) = absurd (n.none t d)
 parsed text ts f g only (inr (t, d, a)) (inr (s, e, b)) = measured text ts t f g a (subst (λ x. Measured text ts x g) (only.tree ts s t e d) b)
 
-nested : (text : List ℕ) (ts : List Token) (f g : SourceFault) → AreOnly text → Nested text ts f → Nested text ts g → f ≡ g
-nested text ts f g only (inl (k, m, a)) (inl (j, n, b)) = same f g (over_limit limit.Nesting) a b
+nested : (text : List ℕ) (ts : List Token) (f g : SourceFault) → AreOnly text → Nested text ts f → Nested text ts g → IsSameCause text f g
+nested text ts f g only (inl (k, m, a)) (inl (j, n, b)) = same text f g (over_limit limit.Nesting) a b
 nested text ts f g only (inl (k, m, a)) (inr (n, b)) = absurd (omega (arith, m.deep, n k m.within))
 nested text ts f g only (inr (m, a)) (inl (j, n, b)) = absurd (omega (arith, n.deep, m j n.within))
 nested text ts f g only (inr (m, a)) (inr (n, b)) = parsed text ts f g only a b
 
-counted : (text : List ℕ) (ts : List Token) (f g : SourceFault) → AreOnly text → Counted text ts f → Counted text ts g → f ≡ g
-counted text ts f g only (inl (m, a)) (inl (n, b)) = same f g (over_limit limit.Tokens) a b
+counted : (text : List ℕ) (ts : List Token) (f g : SourceFault) → AreOnly text → Counted text ts f → Counted text ts g → IsSameCause text f g
+counted text ts f g only (inl (m, a)) (inl (n, b)) = same text f g (over_limit limit.Tokens) a b
 counted text ts f g only (inl (m, a)) (inr (n, b)) = absurd (omega arith)
 counted text ts f g only (inr (m, a)) (inl (n, b)) = absurd (omega arith)
 counted text ts f g only (inr (m, a)) (inr (n, b)) = nested text ts f g only a b
 
-lexed : (text : List ℕ) (f g : SourceFault) → AreOnly text → Lexed text f → Lexed text g → f ≡ g
-lexed text f g only (inl (e, m, a)) (inl (d, n, b)) = same f g (lexical text e) a (subst (λ x. g ≡ lexical text x) (only.fault d e n m) b)
+lexed : (text : List ℕ) (f g : SourceFault) → AreOnly text → Lexed text f → Lexed text g → IsSameCause text f g
+lexed text f g only (inl (e, m, a)) (inl (d, n, b)) = same text f g (lexical text e) a (subst (λ x. g ≡ lexical text x) (only.fault d e n m) b)
 lexed text f g only (inl (e, m, a)) (inr (ts, n, b)) = absurd (only.apart e ts m n)
 lexed text f g only (inr (ts, m, a)) (inl (d, n, b)) = absurd (only.apart d ts n m)
 lexed text f g only (inr (ts, m, a)) (inr (us, n, b)) = counted text ts f g only a (subst (λ x. Counted text x g) (only.cut us ts n m) b)
 
-read : (text : List ℕ) (f g : SourceFault) → AreOnly text → Read text f → Read text g → f ≡ g
-read text f g only (inl (m, a)) (inl (n, b)) = same f g (over_limit limit.Bytes) a b
+read : (text : List ℕ) (f g : SourceFault) → AreOnly text → Read text f → Read text g → IsSameCause text f g
+read text f g only (inl (m, a)) (inl (n, b)) = same text f g (over_limit limit.Bytes) a b
 read text f g only (inl (m, a)) (inr (n, b)) = absurd (omega arith)
 read text f g only (inr (m, a)) (inl (n, b)) = absurd (omega arith)
 read text f g only (inr (m, a)) (inr (n, b)) = lexed text f g only a b
 
-pub same_cause : (text : List ℕ) (f g : SourceFault) → AreOnly text → IsCause text f → IsCause text g → f ≡ g
+pub same_cause : (text : List ℕ) (f g : SourceFault) → AreOnly text → IsCause text f → IsCause text g → IsSameCause text f g
 same_cause text f g only a b = read text f g only (staged text f a) (staged text g b)

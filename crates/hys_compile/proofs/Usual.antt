@@ -1,5 +1,5 @@
 -- The usual tolerance is above 0.
-use Rattle.std.proofs.Common.{◌≡◌, ℤ, pos, negsuc, ◌<ℤ◌, sym, subst, refl, ap, arith}
+use Rattle.std.proofs.Common.{◌≡◌, ℤ, pos, ◌<ℤ◌, sym, subst, refl, arith}
 use borrow.Author.Differences.{ints}
 use Rattle.hys_number.specs.Number.{Number, make}
 use Rattle.hys_number.specs.Gcd.{gcd}

@@ -2,6 +2,7 @@
 use Rattle.std.specs.Prelude.{ℕ, List, [], ◌∷◌, codes, slice_index_or}
 use Rattle.hys_compile.specs.declared.number.TheConstants as number
 use Rattle.hys_ast.specs.declared.place.Place.{Place}
+use Rattle.hys_lin.specs.declared.lost.Lost.{Lost}
 use Rattle.hys_compile.specs.declared.fault.SourceFault.{SourceFault}
 use Rattle.hys_compile.specs.declared.fault.Detail.TheVariants as detail
 use Rattle.hys_compile.specs.declared.fault.LimitKind.{LimitKind}
@@ -41,6 +42,14 @@ over_limit kind = record { number = number.LIMIT; detail = detail.Limit kind }
 abbrev pub no_memory : SourceFault
 no_memory = record { number = 0; detail = detail.Memory }
 
+-- names that are defined by one another in a circle
+abbrev pub circle_fault : List (List ℕ) → SourceFault
+circle_fault names = record { number = number.CYCLE; detail = detail.Names names }
+
+-- an operation of an item at the place whose result doesn't fit
+abbrev pub range_fault : Place → Lost → SourceFault
+range_fault place lost = record { number = number.RANGE; detail = detail.Range place lost }
+
 -- ---- what a fault of typing shows
 abbrev pub shown : TypeFault → SourceFault
 shown (typing.Twice place) = fault_at number.TWICE place
@@ -55,7 +64,7 @@ shown (typing.Kind place) = fault_at number.KIND place
 shown (typing.NotLinear place) = fault_at number.NOT_LINEAR place
 shown (typing.ZeroDivisor place) = fault_at number.ZERO_DIVISOR place
 shown (typing.Literal place) = record { number = number.RANGE; detail = detail.Literal place }
-shown (typing.Range place lost) = record { number = number.RANGE; detail = detail.Range place lost }
+shown (typing.Range place lost) = range_fault place lost
 shown (typing.Tolerance place value) = record { number = number.TOLERANCE; detail = detail.Tolerance place value }
 shown (typing.Missing name) = record { number = number.MISSING; detail = detail.Named name }
 shown typing.Memory = no_memory

@@ -1,4 +1,5 @@
 pub mod Automaton
 pub mod System
 pub mod Faults
+pub mod Sources
 pub mod Text

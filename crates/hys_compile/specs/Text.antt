@@ -5,22 +5,28 @@ use Rattle.hys_lex.specs.Cut.{Cut, IsFirstFault}
 use Rattle.hys_lex.specs.declared.token.Token.{Token}
 use Rattle.hys_lex.specs.declared.cut.LexFault.TheVariants as lexing
 use Rattle.hys_ast.specs.Tree.{Source}
+use Rattle.hys_ast.specs.declared.place.Place.{Place}
 use Rattle.hys_ast.specs.Places.{place_at}
 use Rattle.hys_ast.specs.Nodes.{expressions, total, largest}
 use Rattle.hys_ast.specs.Grammar.{IsTreeOf}
 use Rattle.hys_meaning.specs.Accepted.{Accepted}
+use Rattle.hys_meaning.specs.Circular.{Circular}
+use Rattle.hys_meaning.specs.Names.{names}
+use Rattle.hys_meaning.specs.Unfolded.{unfolded}
 use Rattle.hys_meaning.specs.Weight.{weight}
 use Rattle.hys_parse.specs.Depth.{IsShallow, IsFirstDeep}
 use Rattle.hys_parse.specs.Cause.{IsUngrammatical}
 use Rattle.hys_type.specs.Checks.{fault_of}
 use Rattle.hys_type.specs.declared.fault.TypeFault.{TypeFault}
+use Rattle.hys_bound.specs.Ranges.{Placed, first_unfit}
 use Rattle.hys_plain.specs.Plain.{IsPlain, unbuilt_place}
 use Rattle.hys_sys.specs.System.{IsSystem}
 use Rattle.hys_sys.specs.declared.system.System.{System}
 use Rattle.hys_compile.specs.Automaton.{IsExactFor}
 use Rattle.hys_compile.specs.declared.fault.SourceFault.{SourceFault}
 use Rattle.hys_compile.specs.declared.number.TheConstants as number
-use Rattle.hys_compile.specs.Faults.{fault_at, over_limit, no_memory, shown}
+use Rattle.hys_compile.specs.Faults.{fault_at, over_limit, no_memory, shown, circle_fault, range_fault}
+use Rattle.hys_compile.specs.Sources.{BeginsWithFirst, StandsAt, AreRangeNumbers}
 use Rattle.hys_compile.specs.declared.fault.LimitKind.TheVariants as limit
 
 -- ---- the limits
@@ -64,6 +70,18 @@ pub record IsTyped (text : List ℕ) (tokens : List Token) (tree : Source) : Typ
   pub measured : IsMeasured text tokens tree
   pub faultless : fault_of tree ≡ None
 
+-- and no list of its names is circular, also none with names of unnamed guards
+pub record IsOrdered (text : List ℕ) (tokens : List Token) (tree : Source) : Type 0 where
+  pub typed : IsTyped text tokens tree
+  pub orders : (ns : List (List ℕ)) → ¬ (Circular (unfolded tree) ns)
+
+-- and the numbers of its intervals fit
+pub record IsRanged (text : List ℕ) (tokens : List Token) (tree : Source) : Type 0 where
+  pub ordered : IsOrdered text tokens tree
+  pub numbers : List Placed
+  pub ranges : AreRangeNumbers tree numbers
+  pub fit : first_unfit numbers ≡ None
+
 -- the text of an accepted source
 pub record IsAcceptedText (text : List ℕ) : Type 0 where
   pub tokens : List Token
@@ -83,6 +101,16 @@ pub record IsPlainText (text : List ℕ) : Type 0 where
 abbrev pub byte_of : List ℕ → List Token → ℕ → ℕ
 byte_of text tokens k = slice_index_or (map (λ t. t.from) tokens) k (length text)
 
+-- the fault shows a circular list of the source that the text has, from its name on that is declared first
+pub record IsCircle (text : List ℕ) (fault : SourceFault) : Type 0 where
+  pub tokens : List Token
+  pub tree : Source
+  pub circle : List (List ℕ)
+  pub typed : IsTyped text tokens tree
+  pub circular : Circular (unfolded tree) circle
+  pub first : BeginsWithFirst (names (unfolded tree)) circle
+  pub shown_is : fault ≡ circle_fault circle
+
 -- Why a text is refused. Each cause but the first stands only in a text within the limit on bytes, and
 -- each that speaks of tokens or a tree only where no cause above it stands.
 pub data IsCause (text : List ℕ) : SourceFault → Type 0 where
@@ -98,7 +126,15 @@ pub data IsCause (text : List ℕ) : SourceFault → Type 0 where
       most_nodes_of_one < largest (expressions tree) → IsCause text (over_limit limit.Expression)
   typed : (tokens : List Token) (tree : Source) (fault : TypeFault) → IsMeasured text tokens tree →
       fault_of tree ≡ Some fault → IsCause text (shown fault)
-  unbuilt : (tokens : List Token) (tree : Source) → IsTyped text tokens tree → ¬ (IsPlain tokens tree) → IsCause text (fault_at number.NOT_YET (unbuilt_place text tokens))
+  cycle : (fault : SourceFault) → IsCircle text fault → IsCause text fault
+  interval : (tokens : List Token) (tree : Source) (numbers : List Placed) (lost : Placed) (place : Place) → IsOrdered text tokens tree →
+      AreRangeNumbers tree numbers → first_unfit numbers ≡ Some lost → StandsAt (unfolded tree).items lost.item place →
+      IsCause text (range_fault place lost.what)
+  unbuilt : (tokens : List Token) (tree : Source) → IsRanged text tokens tree → ¬ (IsPlain tokens tree) → IsCause text (fault_at number.NOT_YET (unbuilt_place text tokens))
+
+-- two faults are the same, or both show a circular list of the text: of several any may be shown
+abbrev pub IsSameCause : List ℕ → SourceFault → SourceFault → Type 0
+IsSameCause text f g = (f ≡ g) ⊎ (IsCircle text f × IsCircle text g)
 
 -- what an error may be: a cause of the text, or want of memory
 abbrev pub IsRefusal : List ℕ → SourceFault → Type 0

@@ -24,7 +24,7 @@ ghost use Rattle.hys_sys.specs.System.{IsSystem};
 ghost use Rattle.hys_compile.specs.Automaton.{IsExactFor};
 ghost use Rattle.hys_compile.specs.System.{system_of};
 ghost use Rattle.hys_compile.specs.Faults.{listed, named, words_of};
-ghost use Rattle.hys_compile.specs.Text.{IsAcceptedText, IsCause, IsPlainText};
+ghost use Rattle.hys_compile.specs.Text.{IsAcceptedText, IsCause, IsPlainText, IsSameCause};
 ghost use Rattle.hys_compile.specs.declared.fault.SourceFault.{SourceFault as Fault};
 
 use hys_lex::laws as cuts;
@@ -62,11 +62,11 @@ pub fn plain_sources_are_typed()
         IsPlain tokens s → IsTranslation tolerance s p → IsOrder p o → range_numbers p o ≡ [] }
 {}
 
-/// All translations of a source at a tolerance have the same numbers of intervals along their orders,
-/// so that the first of them that doesn't fit is the source's.
+/// All translations of a source have the same numbers of intervals along their orders, at whatever
+/// tolerances, so that the first of them that doesn't fit is the source's.
 pub fn same_range_numbers()
-    ensures { (tolerance : Number) (s : Source) (p q : Program) (o r : Order) → IsTranslation tolerance s p →
-        IsTranslation tolerance s q → IsOrder p o → IsOrder q r → range_numbers p o ≡ range_numbers q r }
+    ensures { (tolerance other : Number) (s : Source) (p q : Program) (o r : Order) → IsTranslation tolerance s p →
+        IsTranslation other s q → IsOrder p o → IsOrder q r → range_numbers p o ≡ range_numbers q r }
 {}
 
 /// There are twenty faults, and each constant of the module `number` is the number of the fault
@@ -78,9 +78,10 @@ pub fn list_faults()
     ensures numbers { map (λ p. words_of p.0) named ≡ listed }
 {}
 
-/// A text has at most one cause to be refused, and a plain one has none.
+/// A text has at most one cause to be refused, where one circular list of its source is as good as
+/// another, and a plain one has none.
 pub fn one_cause()
-    ensures one { (text : List ℕ) (f g : Fault) → IsCause text f → IsCause text g → f ≡ g }
+    ensures one { (text : List ℕ) (f g : Fault) → IsCause text f → IsCause text g → IsSameCause text f g }
     ensures none { (text : List ℕ) (f : Fault) → IsPlainText text → IsCause text f → ⊥ }
 {
     cuts::one_cut();

@@ -3,6 +3,7 @@
 
 mod build;
 mod compiler;
+mod defining;
 mod fault;
 mod front;
 pub mod laws;

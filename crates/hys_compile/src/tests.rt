@@ -267,7 +267,14 @@ fn in_words(alloc: Global, number: u8, detail: &Detail) -> Result<String, AllocE
             let name = name.text();
             format!(in alloc; "{number} {name}")
         }
-        Detail::Names(_) => format!(in alloc; "{number} names"),
+        Detail::Names(names) => {
+            let mut text = format!(in alloc; "{number}")?;
+            for name in names.items() {
+                text.push_str(" ")?;
+                text.push_str(name.text())?;
+            }
+            Ok(text)
+        }
         Detail::Ends(place, low, high) => {
             let front = placed(alloc, number, *place)?;
             with_numbers(alloc, front.as_str(), *low, *high)
@@ -303,7 +310,7 @@ fn described(alloc: Global, text: &str) -> Result<String, AllocError> {
     }
 }
 
-const TYPING: [(&str, &str); 25] = [
+const TYPING: [(&str, &str); 31] = [
     (
         "SYSTEM t { INTERFACE { STATE {\nREAL x [0, 1], x [0, 1]; } } IMPLEMENTATION { } }",
         "5 2:16",
@@ -372,8 +379,33 @@ const TYPING: [(&str, &str); 25] = [
         "SYSTEM t { INTERFACE { STATE { REAL x [0, 1]; } } IMPLEMENTATION { AUX { BOOL d; } AD {\nd = x >= 1 [0]; } CONTINUOUS { x = x; } } }",
         "20 2:1 0",
     ),
+    (
+        "SYSTEM t { INTERFACE { } IMPLEMENTATION { AUX { BOOL d; } LOGIC { d = d; } } }",
+        "16 d",
+    ),
+    (
+        "SYSTEM t { INTERFACE { } IMPLEMENTATION { AUX { BOOL d1, d2; } LOGIC { d1 = d2; d2 = ~d1; } } }",
+        "16 d1 d2",
+    ),
+    (
+        "SYSTEM t { INTERFACE { } IMPLEMENTATION { AUX { BOOL d; REAL z; } LOGIC { d = z <= 5; } LINEAR { z = (REAL d); } } }",
+        "16 d @1 z",
+    ),
+    (
+        "SYSTEM t { INTERFACE { STATE { REAL x [0, 10]; } } IMPLEMENTATION { AUX { REAL z; } LINEAR { z = z - z + x; } CONTINUOUS {\nx = z; } } }",
+        "19 1:69",
+    ),
+    (
+        "SYSTEM t { INTERFACE { STATE { REAL x [0, 9223372036854775807]; } } IMPLEMENTATION { AUX { BOOL d; } AD {\nd = x <= -1; } CONTINUOUS { x = x; } } }",
+        "17 2:1 true 1 9223372036854775807",
+    ),
     // Two faults: names before values, boxes before items, the left name before the right side, operands before their
-    // operator, items before names that none defines, and all of these before what isn't built yet.
+    // operator, items before names that none defines, circles before numbers of intervals, and all of these before what
+    // isn't built yet.
+    (
+        "SYSTEM t { INTERFACE { STATE { REAL x [0, 9223372036854775807]; } } IMPLEMENTATION { AUX { BOOL d, e; } AD { d = x <= -1; } LOGIC { e = e; } CONTINUOUS { x = x; } } }",
+        "16 e",
+    ),
     (
         "SYSTEM t { INTERFACE { PARAMETER {\nREAL a, a; } } IMPLEMENTATION { } }",
         "5 2:9",
@@ -415,6 +447,26 @@ fn typing_faults(rt: HostRuntime) -> Result<(), Fail> {
         let got = described(alloc, text)?;
         assert_eq!(rt; got.as_str(), wanted, "{text}");
     }
+    Ok(())
+}
+
+// A chain of 199 auxiliaries, each defined by the one that is declared after it.
+#[test]
+fn long_chain(rt: HostRuntime) -> Result<(), Fail> {
+    let alloc = rt.alloc();
+    let mut items = String::new(alloc);
+    let mut names = String::new(alloc);
+    for number in 0..198 {
+        let next = number + 1;
+        let item = format!(in alloc; "z{number} = z{next}; ")?;
+        items.push_str(item.as_str())?;
+        let name = format!(in alloc; "z{number}, ")?;
+        names.push_str(name.as_str())?;
+    }
+    let text = format!(in alloc;
+        "SYSTEM n {{ INTERFACE {{ STATE {{ REAL x [0, 1]; }} }} IMPLEMENTATION {{ AUX {{ REAL {names}z198; }} LINEAR {{ {items}z198 = x; }} CONTINUOUS {{ x = z0; }} }} }}"
+    )?;
+    assert_eq!(rt; judged(alloc, text.as_bytes()), Answer::Placed(19, 1, 68));
     Ok(())
 }
 

@@ -6,6 +6,7 @@ ghost use Rattle.hys_ast.specs.Seen.{source_of};
 ghost use Rattle.hys_prog.specs.Programs.{IsProgram};
 ghost use Rattle.hys_type.specs.Translation.{IsTranslation};
 ghost use Rattle.hys_compile.specs.Faults.{shown};
+ghost use Rattle.hys_compile.specs.Sources.{IsProgramOf};
 ghost use Rattle.hys_compile.specs.Text.{IsMeasured, IsTyped, IsRefusal};
 
 use crate::fault::{Detail, LimitKind, SourceFault};
@@ -57,7 +58,7 @@ fn show(fault: TypeFault) -> SourceFault
 }
 
 // Translates the tree to a program.
-#[tactic(auto, using(crate::proofs::Causes::by_typing, crate::proofs::Causes::passes_typing, crate::proofs::Readable::measured_literals, crate::proofs::Readable::measured_declarations, crate::proofs::Readable::measured_written))]
+#[tactic(auto, using(crate::proofs::Causes::by_typing, crate::proofs::Causes::passes_typing, crate::proofs::Readable::measured_literals, crate::proofs::Readable::measured_declarations, crate::proofs::Readable::measured_written, crate::proofs::Circles::program_of))]
 pub fn translate(
     alloc: Global,
     text: &[u8],
@@ -69,6 +70,7 @@ pub fn translate(
     requires measured { IsMeasured text.now tokens.now (source_of source.now) }
     ensures ok { IfOk result (λ _. IsTyped text.now tokens.now (source_of source.now)) }
     ensures translation { IfOk result (λ p. IsTranslation tolerance (source_of source.now) p) }
+    ensures translated { IfOk result (IsProgramOf (source_of source.now)) }
     ensures program { IfOk result (λ p. IsProgram p) }
     ensures err { IfErr result (IsRefusal text.now) }
 {
