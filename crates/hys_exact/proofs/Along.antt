@@ -1,18 +1,17 @@
 -- Along an order of definition an assignment under which the items have their cases is the valued one.
-use Rattle.std.proofs.Common.{◌≡◌, ℕ, zero, suc, ◌+◌, ◌<◌, List, [], ◌∷◌, Option, Some, None, Bool, true, false, cond, refl, sym, ◌∙◌, ap, arith, subst, inl, inr, ◌⊎◌}
+use Rattle.std.proofs.Common.{◌≡◌, ℕ, ◌+◌, ◌<◌, List, [], ◌∷◌, Some, Bool, true, false, cond, refl, sym, ◌∙◌, arith, subst, inl, inr, ◌⊎◌}
 use Rattle.hys_lin.specs.declared.form.Interval.{Interval}
 use Rattle.hys_lin.specs.Ranges.{box_at}
-use Rattle.hys_lin.specs.Sums.{Assignment, Within, EachColumn}
+use Rattle.hys_lin.specs.Sums.{Assignment, Within}
 use Rattle.hys_formula.specs.Formulas.{FormulaTree, constant, named, negated, joined, tree_of, EachName}
-use Rattle.hys_lin.specs.declared.form.Term.{Term}
 use Rattle.hys_prog.specs.declared.program.Name.{Name}
 use Rattle.hys_prog.specs.declared.program.Body.{Body}
 use Rattle.hys_prog.specs.declared.program.Body.TheVariants.{Guard, Choice, Logic, Linear, NextBool, NextReal, OutBool, OutReal, MustHold, MustMost, MustZero}
 use Rattle.hys_prog.specs.declared.program.ProgItem.{ProgItem}
 use Rattle.hys_prog.specs.declared.program.Program.{Program}
-use Rattle.hys_prog.specs.Programs.{IsProgram, EachItem, NameAt, BodyOver, Named, IsVariable, definitions, is_named}
+use Rattle.hys_prog.specs.Programs.{IsProgram, EachItem, NameAt, Named, IsVariable, definitions, is_named}
 use Rattle.hys_prog.specs.Steps.{CaseOf, places, is_auxiliary}
-use Rattle.hys_prog.specs.Orders.{Leads, IsIn, IsFirst, IsReady, IsOrderAfter}
+use Rattle.hys_prog.specs.Orders.{Leads, IsIn, IsReady, IsOrderAfter}
 use Rattle.hys_prog.proofs.Defined.{some_named}
 use Rattle.hys_prog.proofs.Members.{each_of, first_in, first_holds}
 use Rattle.hys_prog.proofs.Names.{IsAuxiliary, aux_at, aux_named, place_of}

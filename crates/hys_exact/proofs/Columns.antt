@@ -1,12 +1,11 @@
 -- The columns of a built system: an entry for each name with a column, and its arrangement.
-use Rattle.std.proofs.Common.{◌≡◌, ℕ, zero, suc, ◌+◌, ◌<◌, List, [], ◌∷◌, ◌++◌, Bool, true, false, cond, not, ◌&&◌, length, get_or, map, refl, sym, ◌∙◌, ap, ap₂, arith, subst, inl, inr, ◌⊎◌, append_assoc}
+use Rattle.std.proofs.Common.{◌≡◌, ℕ, zero, suc, ◌<◌, List, [], ◌∷◌, ◌++◌, Bool, true, false, cond, not, ◌&&◌, length, get_or, map, refl, sym, ◌∙◌, ap, ap₂, arith, subst, append_assoc}
 use Rattle.std.specs.Prelude.{filter}
 use Rattle.std.specs.List.{All}
 use Rattle.std.proofs.lemmas.List.{map-append, length-map}
 use Rattle.std.proofs.lemmas.List.Elements.{All-nil, All-cons, All-append, All-map}
 use Rattle.hys_number.specs.Ops.{whole}
 use Rattle.hys_lin.specs.declared.form.Interval.{Interval}
-use Rattle.hys_lin.specs.Ranges.{box_at}
 use Rattle.hys_ast.specs.declared.source.Kind.{Kind}
 use Rattle.hys_ast.specs.declared.source.Kind.TheVariants as source
 use Rattle.hys_prog.specs.declared.program.Role.{Role}
@@ -16,13 +15,11 @@ use Rattle.hys_prog.specs.declared.program.Program.{Program}
 use Rattle.hys_prog.specs.Steps.{places, is_state, is_input, is_auxiliary}
 use Rattle.hys_prog.specs.Example.{start}
 use Rattle.hys_bound.specs.Ranges.{unit}
-use Rattle.hys_sys.specs.declared.system.ColumnRole.{ColumnRole}
 use Rattle.hys_sys.specs.declared.system.ColumnRole.TheVariants.{State, Input, D, Z}
 use Rattle.hys_sys.specs.declared.system.Kind2.TheVariants as kind
 use Rattle.hys_sys.specs.declared.system.Column.{Column}
-use Rattle.hys_sys.specs.declared.system.Output.{Output}
 use Rattle.hys_sys.specs.declared.system.System.{System}
-use Rattle.hys_sys.specs.Exact.{Variable, Boxed, Automaton, Arranged, column_of, output_of, fresh_variables, is_bool, bools, reals}
+use Rattle.hys_sys.specs.Exact.{Variable, Arranged, column_of, output_of, fresh_variables, is_bool, bools, reals}
 use Rattle.hys_sys.specs.Exact.{variable_of as column_variable}
 use Rattle.hys_exact.specs.Automata.{kind_of, boxed_of, variable_of, automaton_of}
 use Rattle.hys_exact.specs.Columns.{of_each, own_place, is_state_name, is_input_name, is_boolean, is_boolean_auxiliary, is_real_auxiliary, front, behind, given_column, bool_column, fresh_column, real_column, columns_of}
@@ -105,15 +102,15 @@ unfolding fresh_columns
 columns_spread p boxes n =
     let g : ℕ → Column = name_column p boxes in
     let s : of_each is_state_name (given_column State) 0 p.names ≡ map g (places is_state p) =
-        each_places is_state_name (given_column State) g 0 p.names (λ m j x e i h. sym (column_is p boxes m x (subst (λ (k : ℕ). Stands p.names k x) (omega arith) i) ∙ state_column x.role x.kind boxes m x h)) ∙ ap (map g) (sym (places_each is_state 0 p.names)) in
+    each_places is_state_name (given_column State) g 0 p.names (λ m j x e i h. sym (column_is p boxes m x (subst (λ (k : ℕ). Stands p.names k x) (omega arith) i) ∙ state_column x.role x.kind boxes m x h)) ∙ ap (map g) (sym (places_each is_state 0 p.names)) in
     let u : of_each is_input_name (given_column Input) 0 p.names ≡ map g (places is_input p) =
-        each_places is_input_name (given_column Input) g 0 p.names (λ m j x e i h. sym (column_is p boxes m x (subst (λ (k : ℕ). Stands p.names k x) (omega arith) i) ∙ input_column x.role x.kind boxes m x h)) ∙ ap (map g) (sym (places_each is_input 0 p.names)) in
+    each_places is_input_name (given_column Input) g 0 p.names (λ m j x e i h. sym (column_is p boxes m x (subst (λ (k : ℕ). Stands p.names k x) (omega arith) i) ∙ input_column x.role x.kind boxes m x h)) ∙ ap (map g) (sym (places_each is_input 0 p.names)) in
     let b : of_each is_boolean_auxiliary bool_column 0 p.names ≡ map g (of_each is_boolean_auxiliary own_place 0 p.names) =
-        each_places is_boolean_auxiliary bool_column g 0 p.names (λ m j x e i h. sym (column_is p boxes m x (subst (λ (k : ℕ). Stands p.names k x) (omega arith) i) ∙ boolean_column x.role x.kind boxes m x h)) in
+    each_places is_boolean_auxiliary bool_column g 0 p.names (λ m j x e i h. sym (column_is p boxes m x (subst (λ (k : ℕ). Stands p.names k x) (omega arith) i) ∙ boolean_column x.role x.kind boxes m x h)) in
     let r : of_each is_real_auxiliary (real_column boxes) 0 p.names ≡ map g (behind p) =
-        each_places is_real_auxiliary (real_column boxes) g 0 p.names (λ m j x e i h. sym (column_is p boxes m x (subst (λ (k : ℕ). Stands p.names k x) (omega arith) i) ∙ other_column x.role x.kind boxes m x h)) in
+    each_places is_real_auxiliary (real_column boxes) g 0 p.names (λ m j x e i h. sym (column_is p boxes m x (subst (λ (k : ℕ). Stands p.names k x) (omega arith) i) ∙ other_column x.role x.kind boxes m x h)) in
     let f : map g (front p) ≡ map g (places is_state p) ++ map g (places is_input p) ++ map g (of_each is_boolean_auxiliary own_place 0 p.names) =
-        map-append g (places is_state p ++ places is_input p) (of_each is_boolean_auxiliary own_place 0 p.names) ∙ ap (λ xs. xs ++ map g (of_each is_boolean_auxiliary own_place 0 p.names)) (map-append g (places is_state p) (places is_input p)) in
+    map-append g (places is_state p ++ places is_input p) (of_each is_boolean_auxiliary own_place 0 p.names) ∙ ap (λ xs. xs ++ map g (of_each is_boolean_auxiliary own_place 0 p.names)) (map-append g (places is_state p) (places is_input p)) in
     rw (s, u, b, r, f) (joined_lists (map g (places is_state p)) (map g (places is_input p)) (map g (of_each is_boolean_auxiliary own_place 0 p.names)) (map fresh_column (fresh_variables 1 n)) (map g (behind p)))
 
 -- ---- the arrangement

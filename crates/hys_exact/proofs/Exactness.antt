@@ -1,5 +1,5 @@
 -- A system that is made of parts that mean the items of a program is exact for it.
-use Rattle.std.proofs.Common.{◌≡◌, ◌↔◌, ℕ, zero, suc, ◌+◌, ◌-◌, ◌<◌, ◌≤◌, List, [], ◌∷◌, ◌++◌, Bool, true, false, length, get_or, map, refl, sym, ◌∙◌, ap, ap₂, arith, subst, inl, inr, ◌⊎◌, append_assoc, length-append, IsTrue, set, length-set}
+use Rattle.std.proofs.Common.{◌≡◌, ◌↔◌, ℕ, ◌+◌, ◌-◌, ◌<◌, List, [], ◌∷◌, ◌++◌, true, false, length, get_or, map, refl, sym, ◌∙◌, ap, ap₂, arith, subst, inl, inr, ◌⊎◌, append_assoc, length-append, IsTrue, set, length-set}
 use Rattle.std.specs.List.{HoldsAt}
 use Rattle.std.proofs.lemmas.List.{map-append, length-map, get_or_append_left, get_or-map}
 use Rattle.std.proofs.lemmas.Simd.{map-map}
@@ -21,7 +21,7 @@ use Rattle.hys_prog.specs.declared.program.ProgItem.{ProgItem}
 use Rattle.hys_prog.specs.declared.program.Program.{Program}
 use Rattle.hys_prog.specs.declared.program.Order.{Order}
 use Rattle.hys_prog.specs.Programs.{IsProgram, EachItem, NameAt, Has, IsVariable, IsBooleanVariable, has_column, is_defined}
-use Rattle.hys_prog.specs.Steps.{Legal, Step, CaseOf, InGap, Demand, IsOfKind, InBox, places, is_state, is_input, is_output, is_auxiliary, is_given}
+use Rattle.hys_prog.specs.Steps.{Legal, CaseOf, InGap, Demand, IsOfKind, InBox, places, is_state, is_input, is_output, is_auxiliary, is_given}
 use Rattle.hys_prog.specs.Orders.{IsIn, IsOrder}
 use Rattle.hys_prog.specs.Stops.{IsValued, number_in, numbers_in}
 use Rattle.hys_prog.specs.Walk.{exact, found, started}
@@ -35,7 +35,7 @@ use Rattle.hys_prog.proofs.Judging.{given_step, one_assignment, one_step, step_v
 use Rattle.hys_prog.proofs.Reading.{Same, all_read, reads_for, same_number_in}
 use Rattle.hys_bound.specs.Ranges.{intervals, unit}
 use Rattle.hys_bound.specs.Values.{TakesValues, has_value}
-use Rattle.hys_bound.proofs.Holding.{intervals_hold, legal_takes}
+use Rattle.hys_bound.proofs.Holding.{intervals_hold}
 use Rattle.hys_logic.specs.Literals.{column_in}
 use Rattle.hys_logic.specs.Rows.{Agrees, BitsFrom}
 use Rattle.hys_sys.specs.declared.system.Kind2.{Kind2}
@@ -126,10 +126,10 @@ found_long ts [] vs = refl
 found_long ts (n ∷ ns) vs = found_long ts ns (set vs n (number_in (at vs) n ts)) ∙ length-set vs n (number_in (at vs) n ts)
 
 -- ---- boxes
-zero_one : whole 0 ≤ₙ whole 1
+pub zero_one : whole 0 ≤ₙ whole 1
 zero_one = let above : 0 < 1 = omega arith in rw (whole-ratio 0 1 above, whole-ratio 1 1 above) (simp (ratios, above) (omega arith))
 
-bit_within : (a : Number) → IsBit a → Within unit a
+pub bit_within : (a : Number) → IsBit a → Within unit a
 bit_within a (inl e) = rw e (record { low = le_refl' (whole 0); high = zero_one })
 bit_within a (inr e) = rw e (record { low = zero_one; high = le_refl' (whole 1) })
 
@@ -143,7 +143,6 @@ column_within Aux source.Bool boxes n x a c g b w = bit_within a (b refl)
 column_within Aux source.Real boxes n x a c g b w = w
 
 module _ (p : Program) (o : Order) (S : System) (g : IsProgram p) (q : IsOrder p o) (b : IsBuilt p (intervals p o) S) where
-
   -- ---- columns
   placed : Placed (front p) (behind p) (count_of b.parts) (column_in b.place)
   placed = record { before = b.placing.before; after = b.placing.after }
@@ -151,7 +150,7 @@ module _ (p : Program) (o : Order) (S : System) (g : IsProgram p) (q : IsOrder p
   columns_are : S.columns ≡ spread (front p) (behind p) (name_column p (intervals p o)) (fresh_columns (count_of b.parts))
   columns_are = b.columns ∙ columns_spread p (intervals p o) (count_of b.parts)
 
-  columns_long : length S.columns ≡ length (front p) + (count_of b.parts + length (behind p))
+  pub columns_long : length S.columns ≡ length (front p) + (count_of b.parts + length (behind p))
   columns_long = ap length columns_are ∙ length-spread (front p) (behind p) (name_column p (intervals p o)) (fresh_columns (count_of b.parts)) ∙ ap (λ n. length (front p) + (n + length (behind p))) (fresh_count (count_of b.parts))
 
   column_at : (n : ℕ) (d : Column) → NameAt p.names n IsVariable → get_or S.columns (column_in b.place n) d ≡ name_column p (intervals p o) n
@@ -165,7 +164,7 @@ module _ (p : Program) (o : Order) (S : System) (g : IsProgram p) (q : IsOrder p
   place_within n h = rw columns_long (place_below (front p) (behind p) (count_of b.parts) (column_in b.place) placed n (has_place p n h))
 
   -- ---- numbers within intervals
-  within : (w : Assignment) → TakesValues p w → (n : ℕ) → NameAt p.names n IsVariable → Within (box_at (intervals p o) n) (w n)
+  pub within : (w : Assignment) → TakesValues p w → (n : ℕ) → NameAt p.names n IsVariable → Within (box_at (intervals p o) n) (w n)
   within w t n h =
       let x : (x : Name) × IsVariable x × Stands p.names n x = name_at IsVariable p.names n h in
       each_name (λ n k. IsTrue (has_value k.role) → Within (box_at (intervals p o) n) (w n)) 0 n n p.names x.0 (intervals_hold p o (intervals p o) g q refl w t) (omega arith) x.2 (variable_value x.0 x.1)
@@ -177,11 +176,10 @@ module _ (p : Program) (o : Order) (S : System) (g : IsProgram p) (q : IsOrder p
   rows_met v w h f s i =
       let inside : EachItem (λ t. AreInside (intervals p o) (by_columns b.place v) t.body) p.items = all_inside p.names (intervals p o) (by_columns b.place v) p.items g.bodies (λ n k. rw (s n k) (i n k)) in
       let e : HoldAll v (rows_of b.parts) ↔ (EachItem (IsMet (by_columns b.place v)) p.items × Agrees v (length (front p)) (fresh_of b.parts (by_columns b.place v))) =
-          parts_hold p.names (intervals p o) b.place (length (front p)) p.items b.parts v b.mean h f inside in
-      let r : fresh_of b.parts (by_columns b.place v) ≡ fresh_of b.parts w = fresh_same p.names (intervals p o) b.place (length (front p)) p.items b.parts (by_columns b.place v) w b.mean s in
-      (
+      parts_hold p.names (intervals p o) b.place (length (front p)) p.items b.parts v b.mean h f inside in
+      let r : fresh_of b.parts (by_columns b.place v) ≡ fresh_of b.parts w = fresh_same p.names (intervals p o) b.place (length (front p)) p.items b.parts (by_columns b.place v) w b.mean s in (
         λ k. let m : EachItem (IsMet (by_columns b.place v)) p.items × Agrees v (length (front p)) (fresh_of b.parts (by_columns b.place v)) = e.0 (subst (HoldAll v) b.rows k) in
-          (all_met p.names (by_columns b.place v) w p.items g.bodies g.named s m.0, subst (Agrees v (length (front p))) r m.1),
+            (all_met p.names (by_columns b.place v) w p.items g.bodies g.named s m.0, subst (Agrees v (length (front p))) r m.1),
         λ k. subst (HoldAll v) (sym b.rows) (e.1 (all_met p.names w (by_columns b.place v) p.items g.bodies g.named (λ n a. sym (s n a)) k.0, subst (Agrees v (length (front p))) (sym r) k.1)),
       )
 
@@ -242,14 +240,13 @@ module _ (p : Program) (o : Order) (S : System) (g : IsProgram p) (q : IsOrder p
 
   -- ---- from a state and an input in their boxes
   module _ (x u : List Number) (ix : AreIn (automaton_of p).states x) (iu : AreIn (automaton_of p).inputs u) where
-
-    abbrev valued : Assignment
+    abbrev pub valued : Assignment
     valued = at (exact p o x u)
 
-    is_valued : IsValued p x u valued
+    pub is_valued : IsValued p x u valued
     is_valued = exact_valued p o x u g q (are_in_long (automaton_of p).states x ix ∙ places_long is_state 0 p.names) (are_in_long (automaton_of p).inputs u iu ∙ places_long is_input 0 p.names)
 
-    takes : (w : Assignment) → IsValued p x u w → TakesValues p w
+    pub takes : (w : Assignment) → IsValued p x u w → TakesValues p w
     takes w a = record {
       parameters = a.parameters;
       boxes = given_boxes w 0 p.names (subst (AreIn (automaton_of p).states) (sym a.states) ix) (subst (AreIn (automaton_of p).inputs) (sym a.inputs) iu);
@@ -273,7 +270,7 @@ module _ (p : Program) (o : Order) (S : System) (g : IsProgram p) (q : IsOrder p
     solution_is v f =
         let c : length (fresh_of b.parts valued) ≡ count_of b.parts = fresh_count_of valued in
         spread_is (front p) (behind p) (count_of b.parts) (column_in b.place) placed v (whole 0) valued (bits_of valued) (bits_long valued) (f.solution.long ∙ columns_long)
-            (λ n i. solution_same v f n (place_variable p n i)) (λ j l. agrees_get (at v) (length (front p)) (fresh_of b.parts valued) j (solution_met v f).1 (omega arith) (whole 0))
+        (λ n i. solution_same v f n (place_variable p n i)) (λ j l. agrees_get (at v) (length (front p)) (fresh_of b.parts valued) j (solution_met v f).1 (omega arith) (whole 0))
 
     -- ---- the columns of a valued assignment
     encoded_same : (w : Assignment) → AreSame p.names (by_columns b.place (at (encoded w))) w
@@ -314,7 +311,7 @@ module _ (p : Program) (o : Order) (S : System) (g : IsProgram p) (q : IsOrder p
         go (of_name n k e) =
             let y : (y : Name) × IsVariable y × Stands p.names n y = name_at IsVariable p.names n (place_variable p n k) in
             rw (e, column_at n d (place_variable p n k) ∙ column_is p (intervals p o) n y.0 y.2, encoded_same w n (place_variable p n k))
-                (column_kind y.0.role y.0.kind (intervals p o) n y.0 (w n) refl y.1 (of_kind w h n y.0 y.0.kind refl y.1 y.2))
+            (column_kind y.0.role y.0.kind (intervals p o) n y.0 (w n) refl y.1 (of_kind w h n y.0 y.0.kind refl y.1 y.2))
         go (fresh j k e) = rw (e, fresh_kind j d k, encoded_fresh w j k) (bit_at w j k)
 
     encoded_bits : (w : Assignment) → BitsFrom (at (encoded w)) (length (front p)) (count_of b.parts)
@@ -335,7 +332,7 @@ module _ (p : Program) (o : Order) (S : System) (g : IsProgram p) (q : IsOrder p
         encoded w ≡ (x ++ u) ++ (map w (of_each is_boolean_auxiliary own_place 0 p.names) ++ (bits_of w ++ map w (behind p)))
     encoded_begins w e f =
         let h : map w (front p) ≡ (x ++ u) ++ map w (of_each is_boolean_auxiliary own_place 0 p.names) =
-            map-append w (places is_state p ++ places is_input p) (of_each is_boolean_auxiliary own_place 0 p.names) ∙ ap (λ a. a ++ map w (of_each is_boolean_auxiliary own_place 0 p.names)) (starts x u w e f) in
+        map-append w (places is_state p ++ places is_input p) (of_each is_boolean_auxiliary own_place 0 p.names) ∙ ap (λ a. a ++ map w (of_each is_boolean_auxiliary own_place 0 p.names)) (starts x u w e f) in
         ap (λ a. a ++ (bits_of w ++ map w (behind p))) h ∙ append_assoc (x ++ u) (map w (of_each is_boolean_auxiliary own_place 0 p.names)) (bits_of w ++ map w (behind p))
 
     encoded_from : (w : Assignment) → IsValued p x u w → EachItem (IsMet w) p.items → From S x u (encoded w)
@@ -413,7 +410,7 @@ module _ (p : Program) (o : Order) (S : System) (g : IsProgram p) (q : IsOrder p
         go (of_name n k e) =
             let y : (y : Name) × IsVariable y × Stands p.names n y = name_at IsVariable p.names n (place_variable p n k) in
             rw (e, column_at n d (place_variable p n k) ∙ column_is p (intervals p o) n y.0 y.2, solution_same v f n (place_variable p n k))
-                (column_within y.0.role y.0.kind (intervals p o) n y.0 (valued n) y.1 (λ h. (given_box valued t n y.0 y.2 h).0) (λ h. valued_bits valued t n (stands_as IsBooleanVariable p.names n y.0 y.2 (y.1, h))) (within valued t n (place_variable p n k)))
+            (column_within y.0.role y.0.kind (intervals p o) n y.0 (valued n) y.1 (λ h. (given_box valued t n y.0 y.2 h).0) (λ h. valued_bits valued t n (stands_as IsBooleanVariable p.names n y.0 y.2 (y.1, h))) (within valued t n (place_variable p n k)))
         go (fresh j k e) =
             rw (e, fresh_at j d k, (fresh_is (count_of b.parts) j d k).1) (bit_within (at v (length (front p) + j)) (solution_fresh v f.solution (length (front p) + j) (omega arith) (omega arith)))
 
@@ -425,7 +422,7 @@ module _ (p : Program) (o : Order) (S : System) (g : IsProgram p) (q : IsOrder p
     auxiliaries_same w w' x' x'' y y' l k =
         sym (values_part p is_auxiliary w)
         ∙ map_same (places is_auxiliary p) (by_places p.names w) (by_places p.names w') (λ n i. let h : NameAt p.names n IsVariable = name_map (λ x. is_auxiliary x.role ≡ true) IsVariable p.names n (λ x h. aux_column x.role h) (place_is is_auxiliary p n i) in
-            sym (legal_same (by_places p.names w) x' y l n h) ∙ legal_same (by_places p.names w') x'' y' k n h)
+        sym (legal_same (by_places p.names w) x' y l n h) ∙ legal_same (by_places p.names w') x'' y' k n h)
         ∙ values_part p is_auxiliary w'
 
     solution_texts : (v : List Number) (w : Named) (x' y : List Number) → From S x u v → LegalSteps p x u w x' y →
@@ -435,7 +432,7 @@ module _ (p : Program) (o : Order) (S : System) (g : IsProgram p) (q : IsOrder p
         let s : (n : ℕ) → IsIn n (front p) ⊎ IsIn n (behind p) → valued n ≡ a n = λ n i. legal_same a x' y l n (place_variable p n i) in
         let e : v ≡ spread (front p) (behind p) a (bits_of valued) = solution_is v f ∙ spread_same (front p) (behind p) valued a (bits_of valued) s in
         let k : map a (front p) ≡ (x ++ u) ++ map a (of_each is_boolean_auxiliary own_place 0 p.names) =
-            map-append a (places is_state p ++ places is_input p) (of_each is_boolean_auxiliary own_place 0 p.names) ∙ ap (λ c. c ++ map a (of_each is_boolean_auxiliary own_place 0 p.names)) (starts x u a l.step.states l.step.inputs) in
+        map-append a (places is_state p ++ places is_input p) (of_each is_boolean_auxiliary own_place 0 p.names) ∙ ap (λ c. c ++ map a (of_each is_boolean_auxiliary own_place 0 p.names)) (starts x u a l.step.states l.step.inputs) in
         let m : map a (of_each is_boolean_auxiliary own_place 0 p.names) ≡ values w (bools (automaton_of p)) = values_each p.names is_boolean_auxiliary w ∙ ap (values w) (bools_each p) in
         let r : map a (behind p) ≡ values w (reals (automaton_of p)) = values_each p.names is_real_auxiliary w ∙ ap (values w) (reals_each p) in
         e ∙ sym (append_assoc (map a (front p)) (bits_of valued) (map a (behind p)))
@@ -444,8 +441,12 @@ module _ (p : Program) (o : Order) (S : System) (g : IsProgram p) (q : IsOrder p
     exact_at : ExactAt (automaton_of p) (LegalSteps p) S x u
     exact_at = record {
       solvable = λ w x' y l. (encoded (by_places p.names w), encoded_from (by_places p.names w) (legal_valued (by_places p.names w) x' y l) (legal_met (by_places p.names w) x' y l));
-      steps = λ v f. (named_by p.names (exact p o x u), numbers_in valued p.items (places is_state p), numbers_in valued p.items (places is_output p),
-          subst (λ (a : Assignment). Legal p x u a (numbers_in valued p.items (places is_state p)) (numbers_in valued p.items (places is_output p))) (sym again) (valued_legal (solution_met v f).0));
+      steps = λ v f. (
+        named_by p.names (exact p o x u),
+        numbers_in valued p.items (places is_state p),
+        numbers_in valued p.items (places is_output p),
+        subst (λ (a : Assignment). Legal p x u a (numbers_in valued p.items (places is_state p)) (numbers_in valued p.items (places is_output p))) (sym again) (valued_legal (solution_met v f).0),
+      );
       one = λ v v' f f'. solution_is v f ∙ sym (solution_is v' f');
       one_step = λ w w' x' x'' y y' l k. auxiliaries_same w w' x' x'' y y' l k;
       same = λ v w x' y f l. (bits_of valued, solution_texts v w x' y f l);

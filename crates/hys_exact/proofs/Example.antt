@@ -1,5 +1,5 @@
 -- The rows of the guard program mean its items.
-use Rattle.std.proofs.Common.{◌≡◌, ◌↔◌, ℕ, zero, suc, ◌+◌, ◌*◌, ◌<◌, ◌≤◌, List, [], ◌∷◌, Bool, true, false, length, get_or, refl, sym, ◌∙◌, ap, ap₂, arith, subst, inl, inr, ◌⊎◌, IsTrue, pos, negsuc}
+use Rattle.std.proofs.Common.{◌≡◌, ◌↔◌, ℕ, zero, suc, ◌*◌, ◌<◌, List, [], ◌∷◌, true, false, get_or, refl, sym, ◌∙◌, ap, ap₂, arith, inl, inr, ◌⊎◌, pos, negsuc}
 use Rattle.hys_number.specs.Gcd.{gcd}
 use Rattle.hys_number.specs.Number.{Number, make}
 use Rattle.hys_number.specs.Ops.{whole, ◌+ₙ◌, ◌*ₙ◌, neg, ◌≤ₙ◌, ◌<ₙ◌}
@@ -8,17 +8,12 @@ use Rattle.hys_number.proofs.Inverse.{make-ratio}
 use Rattle.hys_number.proofs.Field.{mul_comm, mul_one, mul_zero, add_zero, neg-mul}
 use Rattle.hys_number.proofs.Order.{lt_irrefl, lt_of_lt-le}
 use Rattle.hys_number.proofs.Scale.{overs, ratio-more, ratio-more', common1, common1_of}
-use Rattle.hys_lin.specs.declared.form.Row.{Row}
-use Rattle.hys_lin.specs.Bits.{IsBit, bit}
-use Rattle.hys_lin.specs.Ranges.{box_at}
-use Rattle.hys_lin.specs.Sums.{Assignment, sum_of, value, Holds, HoldAll, Within}
-use Rattle.hys_prog.specs.Stops.{number_of}
-use Rattle.hys_prog.specs.Steps.{GuardCase, GapAt, CaseOf}
+use Rattle.hys_lin.specs.Bits.{IsBit}
+use Rattle.hys_lin.specs.Sums.{Assignment, sum_of, value, Holds}
 use Rattle.hys_prog.specs.Guarded.{guarded, d_first, difference, alone, d_item, x_item}
 use Rattle.hys_bound.specs.Ranges.{intervals}
-use Rattle.hys_logic.specs.Rows.{Agrees, BitsFrom}
-use Rattle.hys_exact.specs.Columns.{front, behind, IsPlacing}
-use Rattle.hys_exact.specs.Parts.{Part, Means, IsMet, HasBits, AreInside, by_columns}
+use Rattle.hys_exact.specs.Columns.{front}
+use Rattle.hys_exact.specs.Parts.{Part, Means, by_columns}
 use Rattle.hys_exact.specs.Built.{IsBuilt}
 use Rattle.hys_exact.specs.Example.{first_row, second_row, guard_system}
 
@@ -65,19 +60,25 @@ guard_number x = neg x +ₙ whole 5
 -- the rows, at the two numbers of d
 rows_one : (x : Number) → whole 0 ≤ₙ x → x ≤ₙ whole 10 →
     ((neg x +ₙ whole 5 ≤ₙ whole 0) × (x +ₙ make (negsuc 5000) 1000 ≤ₙ make (pos 4999) 1000)) ↔ (guard_number x ≤ₙ whole 0)
-rows_one x = elim (common1_of x) [ common1 D h p n e ↦
-    rw (e ∙ ratio-more' p n D 1000 h (omega arith), in_thousandths 4999 D h, minus_thousandths 5000 D h) (one_over (1000 * D) D (1000 * p) (1000 * n) (omega arith) refl) ]
+rows_one x = elim (common1_of x) [
+  | common1 D h p n e ↦
+      rw (e ∙ ratio-more' p n D 1000 h (omega arith), in_thousandths 4999 D h, minus_thousandths 5000 D h) (one_over (1000 * D) D (1000 * p) (1000 * n) (omega arith) refl)
+]
 
 rows_zero : (x : Number) → whole 0 ≤ₙ x → x ≤ₙ whole 10 →
     ((neg x +ₙ whole 0 ≤ₙ whole 0) × (x +ₙ whole 0 ≤ₙ make (pos 4999) 1000)) ↔ (make (pos 1) 1000 ≤ₙ guard_number x)
-rows_zero x = elim (common1_of x) [ common1 D h p n e ↦
-    let z : 1 * D ≡ D = omega arith in
-    rw (e ∙ ratio-more' p n D 1000 h (omega arith), in_thousandths 4999 D h, in_thousandths 1 D h, z) (zero_over (1000 * D) D (1000 * p) (1000 * n) (omega arith) refl) ]
+rows_zero x = elim (common1_of x) [
+  | common1 D h p n e ↦
+      let z : 1 * D ≡ D = omega arith in
+      rw (e ∙ ratio-more' p n D 1000 h (omega arith), in_thousandths 4999 D h, in_thousandths 1 D h, z) (zero_over (1000 * D) D (1000 * p) (1000 * n) (omega arith) refl)
+]
 
 clear : (a : Number) → (make (pos 1) 1000 ≤ₙ a) ↔ ((whole 0 <ₙ a) × ((a <ₙ make (pos 1) 1000) → ⊥))
-clear a = elim (common1_of a) [ common1 D h p n e ↦
-    let z : 1 * D ≡ D = omega arith in
-    rw (e ∙ ratio-more' p n D 1000 h (omega arith), in_thousandths 1 D h, z) (clear_over (1000 * D) D (1000 * p) (1000 * n) (omega arith) refl) ]
+clear a = elim (common1_of a) [
+  | common1 D h p n e ↦
+      let z : 1 * D ≡ D = omega arith in
+      rw (e ∙ ratio-more' p n D 1000 h (omega arith), in_thousandths 1 D h, z) (clear_over (1000 * D) D (1000 * p) (1000 * n) (omega arith) refl)
+]
 
 one_not_zero : whole 1 ≡ whole 0 → ⊥
 unfolding whole make gcd
@@ -89,15 +90,17 @@ IsGuarded g d = (((g ≤ₙ whole 0) × (d ≡ whole 1)) ⊎ ((whole 0 <ₙ g) �
 rows_mean : (x d : Number) → whole 0 ≤ₙ x → x ≤ₙ whole 10 → IsBit d →
     ((neg x +ₙ whole 5 *ₙ d ≤ₙ whole 0) × (x +ₙ make (negsuc 5000) 1000 *ₙ d ≤ₙ make (pos 4999) 1000)) ↔ IsGuarded (guard_number x) d
 rows_mean x d l m (inr e) = rw (e, mul_one (whole 5), mul_one (make (negsuc 5000) 1000)) (
-    λ h. let k : guard_number x ≤ₙ whole 0 = (rows_one x l m).0 h in (inl (k, refl), λ c. lt_irrefl (whole 0) (lt_of_lt-le (whole 0) (guard_number x) (whole 0) c.0 k)),
-    λ h. (rows_one x l m).1 (go h.0))
+  λ h. let k : guard_number x ≤ₙ whole 0 = (rows_one x l m).0 h in (inl (k, refl), λ c. lt_irrefl (whole 0) (lt_of_lt-le (whole 0) (guard_number x) (whole 0) c.0 k)),
+  λ h. (rows_one x l m).1 (go h.0),
+)
   where
     go : ((guard_number x ≤ₙ whole 0) × (whole 1 ≡ whole 1)) ⊎ ((whole 0 <ₙ guard_number x) × (whole 1 ≡ whole 0)) → guard_number x ≤ₙ whole 0
     go (inl k) = k.0
     go (inr k) = absurd (one_not_zero k.1)
 rows_mean x d l m (inl e) = rw (e, mul_zero (whole 5), mul_zero (make (negsuc 5000) 1000)) (
-    λ h. let k : (whole 0 <ₙ guard_number x) × ((guard_number x <ₙ make (pos 1) 1000) → ⊥) = (clear (guard_number x)).0 ((rows_zero x l m).0 h) in (inr (k.0, refl), λ c. k.1 c.1),
-    λ h. (rows_zero x l m).1 ((clear (guard_number x)).1 (go h.0, λ c. h.1 (go h.0, c))))
+  λ h. let k : (whole 0 <ₙ guard_number x) × ((guard_number x <ₙ make (pos 1) 1000) → ⊥) = (clear (guard_number x)).0 ((rows_zero x l m).0 h) in (inr (k.0, refl), λ c. k.1 c.1),
+  λ h. (rows_zero x l m).1 ((clear (guard_number x)).1 (go h.0, λ c. h.1 (go h.0, c))),
+)
   where
     go : ((guard_number x ≤ₙ whole 0) × (whole 0 ≡ whole 1)) ⊎ ((whole 0 <ₙ guard_number x) × (whole 0 ≡ whole 0)) → whole 0 <ₙ guard_number x
     go (inl k) = absurd (one_not_zero (sym k.1))
@@ -119,16 +122,15 @@ guard_means = record {
   long = λ w. refl;
   same = λ w w' h. refl;
   means = λ v b f i.
-    let r : ((neg (v 0) +ₙ whole 5 *ₙ v 1 ≤ₙ whole 0) × (v 0 +ₙ make (negsuc 5000) 1000 *ₙ v 1 ≤ₙ make (pos 4999) 1000)) ↔ IsGuarded (guard_number (v 0)) (v 1) = rows_mean (v 0) (v 1) i.0.low i.0.high (b 1 (refl, refl)) in
-    let n : value difference (by_columns place v) ≡ guard_number (v 0) = number_is (by_columns place v) in
-    (
-      λ h.
-        let g : IsGuarded (guard_number (v 0)) (v 1) = r.0 (rw (← first_is v) h.0, rw (← second_is v) h.1.0) in
-        (record { case = rw n g.0; no_gap = λ k. g.1 (rw n at k); demand = tt }, tt),
-      λ h.
-        let g : (neg (v 0) +ₙ whole 5 *ₙ v 1 ≤ₙ whole 0) × (v 0 +ₙ make (negsuc 5000) 1000 *ₙ v 1 ≤ₙ make (pos 4999) 1000) = r.1 (rw n at h.0.case, λ k. h.0.no_gap (rw n k)) in
-        (rw (first_is v) g.0, (rw (second_is v) g.1, tt)),
-    );
+      let r : ((neg (v 0) +ₙ whole 5 *ₙ v 1 ≤ₙ whole 0) × (v 0 +ₙ make (negsuc 5000) 1000 *ₙ v 1 ≤ₙ make (pos 4999) 1000)) ↔ IsGuarded (guard_number (v 0)) (v 1) = rows_mean (v 0) (v 1) i.0.low i.0.high (b 1 (refl, refl)) in
+      let n : value difference (by_columns place v) ≡ guard_number (v 0) = number_is (by_columns place v) in (
+        λ h.
+            let g : IsGuarded (guard_number (v 0)) (v 1) = r.0 (rw (← first_is v) h.0, rw (← second_is v) h.1.0) in
+            (record { case = rw n g.0; no_gap = λ k. g.1 (rw n at k); demand = tt }, tt),
+        λ h.
+            let g : (neg (v 0) +ₙ whole 5 *ₙ v 1 ≤ₙ whole 0) × (v 0 +ₙ make (negsuc 5000) 1000 *ₙ v 1 ≤ₙ make (pos 4999) 1000) = r.1 (rw n at h.0.case, λ k. h.0.no_gap (rw n k)) in
+            (rw (first_is v) g.0, (rw (second_is v) g.1, tt)),
+      );
   gives = λ v a b f. absurd (let c : false ≡ true = a in cc);
 }
 

@@ -1,10 +1,8 @@
 -- States and inputs: their places, their boxes, and their numbers by texts.
-use Rattle.std.proofs.Common.{◌≡◌, ℕ, zero, suc, ◌+◌, ◌<◌, List, [], ◌∷◌, ◌++◌, Bool, true, false, cond, ◌||◌, length, get_or, map, refl, sym, ◌∙◌, ap, ap₂, arith, subst, inl, inr, ◌⊎◌, IsTrue}
+use Rattle.std.proofs.Common.{◌≡◌, ℕ, zero, suc, ◌+◌, List, [], ◌∷◌, ◌++◌, Bool, true, false, cond, ◌||◌, length, map, refl, sym, ◌∙◌, ap, arith, subst, IsTrue}
 use Rattle.std.specs.Prelude.{filter}
-use Rattle.std.proofs.lemmas.List.{map-append, length-map}
 use Rattle.hys_number.specs.Number.{Number}
-use Rattle.hys_number.specs.Ops.{whole}
-use Rattle.hys_lin.specs.Sums.{Assignment, at}
+use Rattle.hys_lin.specs.Sums.{Assignment}
 use Rattle.hys_ast.specs.declared.source.Kind.{Kind}
 use Rattle.hys_ast.specs.declared.source.Kind.TheVariants as source
 use Rattle.hys_prog.specs.declared.program.Role.{Role}
@@ -19,7 +17,7 @@ use Rattle.hys_prog.proofs.Names.{place_of}
 use Rattle.hys_prog.proofs.Assigning.{is_fixed}
 use Rattle.hys_sys.specs.Solution.{IsOfKind as IsOfColumnKind}
 use Rattle.hys_sys.specs.Exact.{AreIn, Boxed, Named, Variable, values}
-use Rattle.hys_exact.specs.Automata.{kind_of, boxed_of, variable_of, automaton_of, by_places}
+use Rattle.hys_exact.specs.Automata.{kind_of, boxed_of, variable_of, by_places}
 use Rattle.hys_exact.specs.Columns.{of_each, own_place}
 use Rattle.hys_exact.proofs.Names.{Stands, name_at, stands_as, stands_has, each_map, each_places, each_kept, places_each}
 use Rattle.hys_exact.proofs.Texts.{by_place}

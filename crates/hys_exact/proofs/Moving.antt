@@ -1,16 +1,14 @@
 -- What is met under one assignment is met under each that has the same numbers for states, inputs and auxiliaries.
-use Rattle.std.proofs.Common.{◌≡◌, ℕ, zero, suc, ◌+◌, ◌<◌, List, [], ◌∷◌, Option, Some, None, Bool, true, false, cond, refl, sym, ◌∙◌, ap, ap₂, arith, subst, inl, inr, ◌⊎◌, IsTrue}
+use Rattle.std.proofs.Common.{◌≡◌, ℕ, zero, suc, ◌+◌, ◌<◌, List, [], ◌∷◌, Option, Some, None, Bool, true, false, cond, refl, sym, ◌∙◌, ap, ap₂, arith, subst, IsTrue}
 use Rattle.hys_number.specs.Number.{Number}
-use Rattle.hys_number.specs.Ops.{whole, ◌≤ₙ◌, ◌<ₙ◌}
+use Rattle.hys_number.specs.Ops.{whole, ◌≤ₙ◌}
 use Rattle.hys_lin.specs.declared.form.Interval.{Interval}
-use Rattle.hys_lin.specs.declared.form.Affine.{Affine}
 use Rattle.hys_lin.specs.declared.form.Term.{Term}
 use Rattle.hys_lin.specs.Bits.{IsBit, bit}
 use Rattle.hys_lin.specs.Ranges.{box_at}
 use Rattle.hys_lin.specs.Sums.{Assignment, value, EachColumn, Within}
 use Rattle.hys_formula.specs.Formulas.{tree_of, truth}
-use Rattle.hys_prog.specs.declared.program.Role.{Role}
-use Rattle.hys_prog.specs.declared.program.Role.TheVariants.{State, Input, Output, Parameter, Aux}
+use Rattle.hys_prog.specs.declared.program.Role.TheVariants.{Aux}
 use Rattle.hys_ast.specs.declared.source.Kind.{Kind}
 use Rattle.hys_ast.specs.declared.source.Kind.TheVariants.{Real, Bool as Truth}
 use Rattle.hys_prog.specs.declared.program.Name.{Name}
@@ -18,9 +16,9 @@ use Rattle.hys_prog.specs.declared.program.Body.{Body}
 use Rattle.hys_prog.specs.declared.program.Body.TheVariants.{Guard, Choice, Logic, Linear, NextBool, NextReal, OutBool, OutReal, MustHold, MustMost, MustZero}
 use Rattle.hys_prog.specs.declared.program.ProgItem.{ProgItem}
 use Rattle.hys_prog.specs.Programs.{EachItem, NameAt, BodyOver, Named, Suits, Has, IsVariable, has_column, definitions, is_named}
-use Rattle.hys_prog.specs.Steps.{Case, CaseOf, OfName, GapAt, InGap, DemandOf, Demand, GuardCase}
+use Rattle.hys_prog.specs.Steps.{Case, OfName, GapAt, DemandOf}
 use Rattle.hys_prog.specs.Stops.{number_of, number_in}
-use Rattle.hys_prog.proofs.Names.{name_map, name_both, name_never}
+use Rattle.hys_prog.proofs.Names.{name_map}
 use Rattle.hys_prog.proofs.Defined.{some_named}
 use Rattle.hys_prog.proofs.Reading.{Reads, Same, same_value, same_truth, reads_all, named_suits}
 use Rattle.hys_bound.specs.Ranges.{EachAsked}

@@ -1,9 +1,6 @@
 -- What a function gives for each name that passes a test, and where the names with a column stand.
-use Rattle.std.proofs.Common.{◌≡◌, ℕ, zero, suc, ◌+◌, ◌<◌, List, [], ◌∷◌, ◌++◌, Bool, true, false, cond, not, ◌&&◌, length, get_or, map, refl, sym, ◌∙◌, ap, ap₂, arith, subst, inl, inr, ◌⊎◌}
+use Rattle.std.proofs.Common.{◌≡◌, ℕ, zero, suc, ◌+◌, List, [], ◌∷◌, ◌++◌, Bool, true, false, cond, not, ◌&&◌, map, refl, sym, ◌∙◌, ap, ap₂, arith, subst, inl, inr, ◌⊎◌}
 use Rattle.std.specs.Prelude.{filter}
-use Rattle.std.proofs.lemmas.List.{map-append}
-use Rattle.hys_number.specs.Ops.{whole}
-use Rattle.hys_ast.specs.declared.place.Place.{Place}
 use Rattle.hys_ast.specs.declared.source.Kind.{Kind}
 use Rattle.hys_ast.specs.declared.source.Kind.TheVariants as source
 use Rattle.hys_prog.specs.declared.program.Role.{Role}
@@ -15,7 +12,7 @@ use Rattle.hys_prog.specs.Steps.{places, places_from, is_state, is_input, is_aux
 use Rattle.hys_prog.specs.Orders.{IsIn}
 use Rattle.hys_prog.proofs.Members.{in_left, in_right, in_parts}
 use Rattle.hys_prog.proofs.Names.{name_map, at_place, place_of}
-use Rattle.hys_exact.specs.Columns.{of_each, own_place, is_state_name, is_input_name, is_boolean, is_boolean_auxiliary, is_real_auxiliary, front, behind}
+use Rattle.hys_exact.specs.Columns.{of_each, own_place, is_boolean, is_boolean_auxiliary, is_real_auxiliary, front, behind}
 
 -- ---- lists of what is given
 pub each_map : {X Y : Type 0} (t : Name → Bool) (f : ℕ → Name → X) (g : X → Y) (k : ℕ) (xs : List Name) → map g (of_each t f k xs) ≡ of_each t (λ n x. g (f n x)) k xs

@@ -1,17 +1,17 @@
 -- What parts that mean the items say together.
-use Rattle.std.proofs.Common.{◌≡◌, ◌↔◌, ℕ, zero, suc, ◌+◌, ◌<◌, ◌≤◌, List, [], ◌∷◌, ◌++◌, Bool, true, false, cond, length, get_or, map, refl, sym, ◌∙◌, ap, ap₂, arith, subst, inl, inr, ◌⊎◌, length-append, IsTrue}
+use Rattle.std.proofs.Common.{◌≡◌, ◌↔◌, ℕ, zero, suc, ◌+◌, ◌<◌, List, [], ◌∷◌, ◌++◌, Bool, true, false, cond, length, get_or, map, refl, ◌∙◌, ap, ap₂, arith, inl, inr, length-append, IsTrue}
 use Rattle.hys_number.specs.Number.{Number}
-use Rattle.hys_number.specs.Ops.{whole}
 use Rattle.hys_lin.specs.declared.form.Affine.{Affine}
 use Rattle.hys_lin.specs.declared.form.Interval.{Interval}
 use Rattle.hys_lin.specs.declared.form.Row.{Row}
 use Rattle.hys_lin.specs.Bits.{IsBit, bit}
-use Rattle.hys_lin.specs.Sums.{Assignment, HoldAll, Holds, value}
+use Rattle.hys_lin.specs.Sums.{Assignment, HoldAll, value}
 use Rattle.hys_prog.specs.declared.program.Name.{Name}
 use Rattle.hys_prog.specs.declared.program.ProgItem.{ProgItem}
 use Rattle.hys_prog.specs.Programs.{EachItem, definitions, is_named}
 use Rattle.hys_prog.specs.Steps.{CaseOf}
 use Rattle.hys_prog.specs.Stops.{number_of, number_in}
+use Rattle.hys_prog.specs.Walk.{IsFirstAt}
 use Rattle.hys_logic.specs.Rows.{Agrees, BitsFrom}
 use Rattle.hys_exact.specs.Parts.{Part, Means, AreParts, AreInside, AreSame, HasBits, IsMet, by_columns, is_after, rows_of, count_of, fresh_of, forms_of}
 use Rattle.hys_exact.specs.Built.{form_for}
@@ -73,9 +73,10 @@ parts_cases names boxes columns k [] [] v a b f h = tt
 parts_cases names boxes columns k [] (q ∷ qs) v a b f h = absurd a
 parts_cases names boxes columns k (t ∷ ts) [] v a b f h = absurd a
 parts_cases names boxes columns k (t ∷ ts) (q ∷ qs) v a b f h =
-    let s : HoldAll v q.rows × HoldAll v (rows_of qs) = (hold_append v q.rows (rows_of qs)).0 h in
-    (λ i. ((a.0.means v b (λ c l m. f c l (omega arith)) i).0 s.0).0.case,
-     parts_cases names boxes columns (k + q.count) ts qs v a.1 b (λ c l m. f c (omega arith) (omega arith)) s.1)
+    let s : HoldAll v q.rows × HoldAll v (rows_of qs) = (hold_append v q.rows (rows_of qs)).0 h in (
+      λ i. ((a.0.means v b (λ c l m. f c l (omega arith)) i).0 s.0).0.case,
+      parts_cases names boxes columns (k + q.count) ts qs v a.1 b (λ c l m. f c (omega arith) (omega arith)) s.1,
+    )
 
 -- with what is mentioned in its interval the rows hold exactly where each item is met and the fresh columns have their
 -- truths
@@ -90,16 +91,15 @@ parts_hold names boxes columns k (t ∷ ts) (q ∷ qs) v a b f i =
     let here : HoldAll v q.rows ↔ (IsMet w t × Agrees v k (q.fresh w)) = a.0.means v b (λ c l m. f c l (omega arith)) i.0 in
     let rest : HoldAll v (rows_of qs) ↔ (EachItem (IsMet w) ts × Agrees v (k + q.count) (fresh_of qs w)) = parts_hold names boxes columns (k + q.count) ts qs v a.1 b (λ c l m. f c (omega arith) (omega arith)) i.1 in
     let cut : HoldAll v (q.rows ++ rows_of qs) ↔ (HoldAll v q.rows × HoldAll v (rows_of qs)) = hold_append v q.rows (rows_of qs) in
-    let bits : Agrees v k (q.fresh w ++ fresh_of qs w) ↔ (Agrees v k (q.fresh w) × Agrees v (k + q.count) (fresh_of qs w)) = agrees_append v k q.count (q.fresh w) (fresh_of qs w) (a.0.long w) in
-    (
+    let bits : Agrees v k (q.fresh w ++ fresh_of qs w) ↔ (Agrees v k (q.fresh w) × Agrees v (k + q.count) (fresh_of qs w)) = agrees_append v k q.count (q.fresh w) (fresh_of qs w) (a.0.long w) in (
       λ h.
-        let c : HoldAll v q.rows × HoldAll v (rows_of qs) = cut.0 h in
-        let x : IsMet w t × Agrees v k (q.fresh w) = here.0 c.0 in
-        let y : EachItem (IsMet w) ts × Agrees v (k + q.count) (fresh_of qs w) = rest.0 c.1 in
-        ((x.0, y.0), bits.1 (x.1, y.1)),
+          let c : HoldAll v q.rows × HoldAll v (rows_of qs) = cut.0 h in
+          let x : IsMet w t × Agrees v k (q.fresh w) = here.0 c.0 in
+          let y : EachItem (IsMet w) ts × Agrees v (k + q.count) (fresh_of qs w) = rest.0 c.1 in
+          ((x.0, y.0), bits.1 (x.1, y.1)),
       λ h.
-        let z : Agrees v k (q.fresh w) × Agrees v (k + q.count) (fresh_of qs w) = bits.0 h.1 in
-        cut.1 (here.1 (h.0.0, z.0), rest.1 (h.0.1, z.1)),
+          let z : Agrees v k (q.fresh w) × Agrees v (k + q.count) (fresh_of qs w) = bits.0 h.1 in
+          cut.1 (here.1 (h.0.0, z.0), rest.1 (h.0.1, z.1)),
     )
 
 -- ---- forms
@@ -126,3 +126,17 @@ parts_push names boxes columns k (u ∷ ts) [] t q a m = absurd a
 parts_push names boxes columns k (u ∷ ts) (r ∷ qs) t q a m =
     let s : k + (r.count + count_of qs) ≡ k + r.count + count_of qs = omega arith in
     (a.0, parts_push names boxes columns (k + r.count) ts qs t q a.1 (rw s at m))
+
+-- ---- forms by the places of items
+pub forms_long : (names : List Name) (boxes : List Interval) (columns : List ℕ) (k : ℕ) (ts : List ProgItem) (qs : List Part) → AreParts names boxes columns k ts qs → length (forms_of qs) ≡ length ts
+forms_long names boxes columns k [] [] a = refl
+forms_long names boxes columns k [] (q ∷ qs) a = absurd a
+forms_long names boxes columns k (t ∷ ts) [] a = absurd a
+forms_long names boxes columns k (t ∷ ts) (q ∷ qs) a = ap suc (forms_long names boxes columns (k + q.count) ts qs a.1)
+
+-- the form of a name is that at the place of the first item that defines it
+pub form_found : (ts : List ProgItem) (fs : List Affine) (n k : ℕ) (d : Affine) → length fs ≡ length ts → IsFirstAt ts k n → form_for ts fs n ≡ get_or fs k d
+form_found [] fs n k d e f = absurd f
+form_found (t ∷ ts) [] n k d e f = absurd (omega arith)
+form_found (t ∷ ts) (g ∷ fs) n zero d e f = rw f refl
+form_found (t ∷ ts) (g ∷ fs) n (suc k) d e f = rw (f.0) (form_found ts fs n k d (omega arith) f.1)

@@ -1,10 +1,9 @@
 -- The same numbers by the texts of names and by their places.
-use Rattle.std.proofs.Common.{◌≡◌, ℕ, zero, suc, ◌+◌, List, [], ◌∷◌, Bool, true, false, cond, length, get_or, map, refl, sym, ◌∙◌, ap, ap₂, arith, bytes_eq}
+use Rattle.std.proofs.Common.{◌≡◌, ℕ, zero, suc, List, [], ◌∷◌, Bool, true, false, cond, length, map, refl, sym, ◌∙◌, ap, ap₂, arith, bytes_eq}
 use Rattle.std.proofs.lemmas.Slice.Eq.{bytes_eq-Decides}
 use Rattle.hys_base.specs.Differ.{Apart, Differ}
 use Rattle.hys_number.specs.Number.{Number}
 use Rattle.hys_number.specs.Ops.{whole}
-use Rattle.hys_lin.specs.Sums.{at}
 use Rattle.hys_prog.specs.declared.program.Name.{Name}
 use Rattle.hys_prog.specs.Programs.{text_of}
 use Rattle.hys_sys.specs.Exact.{Named}
