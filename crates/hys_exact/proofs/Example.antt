@@ -157,6 +157,7 @@ guard_is_built = record {
   name = refl;
   columns = refl;
   rows = refl;
+  labels = refl;
   next = refl;
   outputs = refl;
 }

@@ -1,7 +1,7 @@
 -- A system that is made of sound parts is lawful.
 use Rattle.std.proofs.Common.{◌≡◌, ℕ, zero, suc, ◌+◌, ◌^◌, ◌<◌, ◌≤◌, List, [], ◌∷◌, ◌++◌, Bool, true, false, cond, ◌&&◌, not, length, get_or, map, refl, sym, ◌∙◌, ap, ap₂, arith, subst, inl}
 use Rattle.std.specs.List.{All}
-use Rattle.std.proofs.lemmas.List.{map-append, length-map}
+use Rattle.std.proofs.lemmas.List.{map-append, length-map, length-append}
 use Rattle.std.proofs.lemmas.Simd.{map-map}
 use Rattle.std.proofs.lemmas.List.Elements.{All-nil, All-cons, All-append, All-map, All-weaker, All-head, All-tail}
 use Rattle.hys_base.specs.Differ.{Differ}
@@ -38,6 +38,7 @@ use Rattle.hys_sys.specs.Solution.{IsOfKind}
 use Rattle.hys_exact.specs.Automata.{kind_of, boxed_of, automaton_of}
 use Rattle.hys_exact.specs.Columns.{of_each, own_place, is_state_name, is_input_name, is_boolean_auxiliary, is_real_auxiliary, is_boolean, front, behind, given_column, bool_column, fresh_column, real_column, columns_of}
 use Rattle.hys_exact.specs.Parts.{Part, rows_of, count_of, forms_of}
+use Rattle.hys_exact.specs.Labels.{label_of, labels_of}
 use Rattle.hys_exact.specs.Built.{IsBuilt, form_for, is_output_name, output_with}
 use Rattle.hys_exact.specs.Sound.{AreSound}
 use Rattle.hys_exact.proofs.Names.{Stands, stands_as, each_map, each_kept, places_each}
@@ -194,6 +195,15 @@ rows_sound columns [] (q ∷ qs) s = absurd s
 rows_sound columns (t ∷ ts) [] s = absurd s
 rows_sound columns (t ∷ ts) (q ∷ qs) s = All-append (λ r. AreTermsOver columns r.terms) q.rows (rows_of qs) s.0.rows (rows_sound columns ts qs s.1)
 
+labels_long : (columns : ℕ) (names : List Name) (ts : List ProgItem) (qs : List Part) → AreSound columns ts qs → length (labels_of names ts qs) ≡ length (rows_of qs)
+labels_long columns names [] [] s = refl
+labels_long columns names [] (q ∷ qs) s = absurd s
+labels_long columns names (t ∷ ts) [] s = absurd s
+labels_long columns names (t ∷ ts) (q ∷ qs) s =
+    length-append (map (λ (r : Row). label_of names t) q.rows) (labels_of names ts qs)
+    ∙ ap₂ ◌+◌ (length-map q.rows (λ (r : Row). label_of names t)) (labels_long columns names ts qs s.1)
+    ∙ sym (length-append q.rows (rows_of qs))
+
 no_equations : (columns : ℕ) (ts : List ProgItem) (qs : List Part) → AreSound columns ts qs → All (λ r. r.eq ≡ false) (rows_of qs)
 no_equations columns [] [] s = All-nil (λ (r : Row). r.eq ≡ false)
 no_equations columns [] (q ∷ qs) s = absurd s
@@ -313,6 +323,7 @@ module _ (p : Program) (o : Order) (S : System) (g : IsProgram p) (q : IsOrder p
         next = subst (All (λ f. AreTermsOver (length S.columns) f.terms)) (sym b.next) (All-map (λ (f : Affine). AreTermsOver (length S.columns) f.terms) (form_for p.items (forms_of b.parts)) (places is_state p) (λ i n k. form_sound (length S.columns) p.items b.parts (get_or (places is_state p) i n) s));
         outputs = subst (All (λ (o : Output). AreTermsOver (length S.columns) o.form.terms)) (sym b.outputs) (all_each (λ (o : Output). AreTermsOver (length S.columns) o.form.terms) is_output_name (output_with p.items (forms_of b.parts)) 0 p.names (λ n j x e k h. form_sound (length S.columns) p.items b.parts n s));
         rows = subst (All (λ r. AreTermsOver (length S.columns) r.terms)) (sym b.rows) (rows_sound (length S.columns) p.items b.parts s);
+        labelled = ap length b.labels ∙ labels_long (length S.columns) p.names p.items b.parts s ∙ sym (ap length b.rows);
         no_equation = subst (All (λ (r : Row). r.eq ≡ false)) (sym b.rows) (no_equations (length S.columns) p.items b.parts s);
         few_columns = few_all;
         few_rows = rw (ap length b.rows, w) (few_rows p (length S.columns) b.parts g s);

@@ -13,6 +13,7 @@ use Rattle.hys_sys.specs.declared.system.System.{System}
 use Rattle.hys_exact.specs.Automata.{kind_of}
 use Rattle.hys_exact.specs.Columns.{IsPlacing, columns_of, front, of_each}
 use Rattle.hys_exact.specs.Parts.{Part, AreParts, rows_of, count_of, forms_of}
+use Rattle.hys_exact.specs.Labels.{labels_of}
 
 -- the form of the first item that defines the name; where none does a form without terms
 abbrev pub form_for : List ProgItem → List Affine → ℕ → Affine
@@ -36,5 +37,6 @@ pub record IsBuilt (p : Program) (boxes : List Interval) (S : System) : Type 0 w
   pub name : S.name ≡ p.system
   pub columns : S.columns ≡ columns_of p boxes (count_of parts)
   pub rows : S.rows ≡ rows_of parts
+  pub labels : S.labels ≡ labels_of p.names p.items parts
   pub next : S.next ≡ map (form_for p.items (forms_of parts)) (places is_state p)
   pub outputs : S.outputs ≡ of_each is_output_name (output_with p.items (forms_of parts)) 0 p.names
