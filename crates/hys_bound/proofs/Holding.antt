@@ -81,7 +81,7 @@ product_around f i x w = go f.num refl
     go (pos n) e = (mul-le-mul_left f i.low x (at_least_zero f n e) w.low, mul-le-mul_left f x i.high (at_least_zero f n e) w.high)
     go (negsuc n) e = (mul-le-mul_left_neg f x i.high (le_of_lt f (whole 0) (below_zero f n e)) w.high, mul-le-mul_left_neg f i.low x (le_of_lt f (whole 0) (below_zero f n e)) w.low)
 
-abbrev AreWithin : List Interval → Assignment → (ℕ → Type 0) → Type 0
+abbrev pub AreWithin : List Interval → Assignment → (ℕ → Type 0) → Type 0
 AreWithin boxes w P = (c : ℕ) → P c → Within (box_at boxes c) (w c)
 
 ends_around : (boxes : List Interval) (w : Assignment) (ts : List Term) → AreWithin boxes w (λ c. HasTerm c ts) →
@@ -92,7 +92,7 @@ ends_around boxes w (t ∷ ts) h =
     let q : (sum_by ts (end_at false boxes) ≤ₙ sum_of ts w) × (sum_of ts w ≤ₙ sum_by ts (end_at true boxes)) = ends_around boxes w ts (λ c i. h c (inr i)) in
     (add-le-add _ _ _ _ p.0 q.0, add-le-add _ _ _ _ p.1 q.1)
 
-form_within : (boxes : List Interval) (w : Assignment) (f : Affine) → AreWithin boxes w (λ c. HasTerm c f.terms) → Within (range boxes f) (value f w)
+pub form_within : (boxes : List Interval) (w : Assignment) (f : Affine) → AreWithin boxes w (λ c. HasTerm c f.terms) → Within (range boxes f) (value f w)
 unfolding value
 form_within boxes w f h =
     let q : (sum_by f.terms (end_at false boxes) ≤ₙ sum_of f.terms w) × (sum_of f.terms w ≤ₙ sum_by f.terms (end_at true boxes)) = ends_around boxes w f.terms h in

@@ -2,6 +2,7 @@
 use Rattle.std.specs.Prelude.{◌≡◌, ℕ, suc, ◌+◌, ◌<◌, ◌≤◌, List, [], ◌∷◌, ◌++◌, Bool, true, false, ℤ, pos, negsuc}
 use Rattle.hys_number.specs.Number.{Number}
 use Rattle.hys_number.specs.Ops.{◌+ₙ◌, ◌-ₙ◌, neg, whole, int}
+use Rattle.hys_lin.specs.declared.form.Affine.{Affine}
 use Rattle.hys_lin.specs.declared.form.Term.{Term}
 use Rattle.hys_lin.specs.declared.form.Row.{Row}
 use Rattle.hys_lin.specs.Sums.{Assignment, sum_of, AreTerms, EachColumn}
@@ -31,6 +32,10 @@ turned Minus true = Plus
 abbrev pub own_terms : Literal → List Term
 own_terms (Fixed b) = []
 own_terms (Column c n) = record { column = c; factor = signed (turned Plus n) (whole 1) } ∷ []
+
+-- the literal as a form
+abbrev pub form_of : Literal → Affine
+form_of l = record { terms = own_terms l; constant = constant_part l }
 
 -- a base less the constants of two literals with their signs
 abbrev pub moved_by : Sign → Literal → Sign → Literal → ℤ → Number

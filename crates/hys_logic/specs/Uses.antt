@@ -11,9 +11,9 @@ use Rattle.hys_logic.specs.declared.literal.Logic.{Logic}
 use Rattle.hys_logic.specs.declared.row.Sign.TheVariants.{Plus, Minus}
 use Rattle.hys_logic.specs.declared.usage.Use.{Use}
 use Rattle.hys_logic.specs.declared.usage.Use.TheVariants.{Read, Define, Require}
-use Rattle.hys_logic.specs.Literals.{column_in, literal_of, number_of, LiteralBelow}
+use Rattle.hys_logic.specs.Literals.{column_in, literal_of, LiteralBelow}
 use Rattle.hys_logic.specs.Meanings.{HaveBits, truth_at}
-use Rattle.hys_logic.specs.Rows.{pair_by, Added, Agrees, BitsFrom, fresh_of, stated_of}
+use Rattle.hys_logic.specs.Rows.{form_of, pair_by, Added, Agrees, BitsFrom, fresh_of, stated_of}
 use Rattle.hys_logic.specs.Tables.{is_short, table_of}
 
 -- ---- fresh columns
@@ -143,7 +143,7 @@ HasTruth u cs k f l = (v : Assignment) → HaveBits cs v f → IsSolved u cs k v
 
 -- the literal and the rows are the stated ones
 abbrev pub HasLiteral : Use → List ℕ → ℕ → FormulaTree → Logic → Type 0
-HasLiteral u cs k f l = (v : Assignment) → value l.literal v ≡ number_of (literal_by u (column_in cs) k f) v
+HasLiteral u cs k f l = l.literal ≡ form_of (literal_by u (column_in cs) k f)
 
 abbrev pub HasRows : Use → List ℕ → ℕ → FormulaTree → Logic → Type 0
 HasRows u cs k f l = AreRows l.rows (stated_by u (column_in cs) k f)

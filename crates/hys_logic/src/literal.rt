@@ -1,7 +1,7 @@
 ghost use Rattle.std.specs.Prelude.{◌≡◌, IfOk, ℕ, length, ◌≤◌, ◌<◌};
 ghost use Rattle.hys_lin.specs.Sums.{Assignment, value, AreTerms, EachColumn};
 ghost use Rattle.hys_logic.specs.Literals.{number_of, constant_part, opposite as opposite_of, LiteralBelow};
-ghost use Rattle.hys_logic.specs.Rows.{own_terms};
+ghost use Rattle.hys_logic.specs.Rows.{own_terms, form_of};
 ghost use Rattle.hys_lin.specs.Bits.{bit as bit_of};
 
 use crate::row::{Sign, single, term};
@@ -52,6 +52,7 @@ impl Literal {
 
     // The literal as a form of at most one term.
     pub fn form(self, alloc: Global) -> Result<Affine, AllocError>
+        ensures stated { IfOk result (λ f. f ≡ form_of self) }
         ensures value { IfOk result (λ f. (v : Assignment) → value f v ≡ number_of self v) }
         ensures terms { IfOk result (λ f. AreTerms f.terms × (length f.terms ≤ 1)) }
         ensures below { IfOk result (λ f. (n : ℕ) → LiteralBelow n self → EachColumn (λ c. c < n) f.terms) }

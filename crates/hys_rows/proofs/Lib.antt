@@ -1,0 +1,5 @@
+pub mod Moving
+pub mod Adding
+pub mod Placing
+pub mod Meaning
+pub mod Whole

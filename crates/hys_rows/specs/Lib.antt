@@ -1,0 +1,5 @@
+pub mod Moved
+pub mod Items
+pub mod Parts
+pub mod Numbers
+pub mod Adding
