@@ -85,3 +85,5 @@ pub mod GuardPlaces
 pub mod TypingRules
 pub mod RulesKept
 pub mod Zeros
+pub mod OneForm
+pub mod OneTranslation

@@ -39,7 +39,7 @@ minus_one_is_not_zero e = let f = ap (λ (x : Number). x.num) e in absurd (cc)
 
 small_names : (tolerance : Number) → OneByOne (IsNameOf (parameters (small_by (codes "@1")).decls)) (small_by (codes "@1")).decls (small_program tolerance (whole 2)).names
 unfolding literal scan_numeral whole make gcd ◌+ₙ◌ ◌*ₙ◌ neg
-small_names tolerance = (record { text = refl; role = refl; kind = refl; place = refl; low = λ h. refl; high = λ h. refl; value = λ h. absurd (cc) }, (record { text = refl; role = refl; kind = refl; place = refl; low = λ h. absurd (cc); high = λ h. absurd (cc); value = λ h. refl }, (record { text = refl; role = refl; kind = refl; place = refl; low = λ h. absurd (cc); high = λ h. absurd (cc); value = λ h. refl }, (record { text = refl; role = refl; kind = refl; place = refl; low = λ h. absurd (cc); high = λ h. absurd (cc); value = λ h. absurd (cc) }, (record { text = refl; role = refl; kind = refl; place = refl; low = λ h. absurd (cc); high = λ h. absurd (cc); value = λ h. absurd (cc) }, (record { text = refl; role = refl; kind = refl; place = refl; low = λ h. absurd (cc); high = λ h. absurd (cc); value = λ h. absurd (cc) }, tt))))))
+small_names tolerance = (record { text = refl; role = refl; kind = refl; place = refl; low = λ h. refl; high = λ h. refl; usual = λ h. absurd (cc); value = λ h. absurd (cc); no_value = λ h. refl }, (record { text = refl; role = refl; kind = refl; place = refl; low = λ h. absurd (cc); high = λ h. absurd (cc); usual = λ h. refl; value = λ h. refl; no_value = λ h. absurd (cc) }, (record { text = refl; role = refl; kind = refl; place = refl; low = λ h. absurd (cc); high = λ h. absurd (cc); usual = λ h. refl; value = λ h. refl; no_value = λ h. absurd (cc) }, (record { text = refl; role = refl; kind = refl; place = refl; low = λ h. absurd (cc); high = λ h. absurd (cc); usual = λ h. refl; value = λ h. absurd (cc); no_value = λ h. refl }, (record { text = refl; role = refl; kind = refl; place = refl; low = λ h. absurd (cc); high = λ h. absurd (cc); usual = λ h. refl; value = λ h. absurd (cc); no_value = λ h. refl }, (record { text = refl; role = refl; kind = refl; place = refl; low = λ h. absurd (cc); high = λ h. absurd (cc); usual = λ h. refl; value = λ h. absurd (cc); no_value = λ h. refl }, tt))))))
 
 small_items : (tolerance : Number) → OneByOne (IsItemOf (setting tolerance (small_by (codes "@1")))) (small_by (codes "@1")).items (small_program tolerance (whole 2)).items
 unfolding literal scan_numeral whole make gcd ◌+ₙ◌ ◌*ₙ◌ neg is_one

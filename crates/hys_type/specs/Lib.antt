@@ -11,6 +11,7 @@ pub mod Operands
 pub mod Examples
 pub mod Translation
 pub mod Views
+pub mod ProgramTrees
 pub mod Rules
 pub mod Declaring
 pub mod SameMeaning

@@ -21,6 +21,7 @@ ghost use Rattle.hys_meaning.specs.Unfolded.{unfolded};
 ghost use Rattle.hys_prog.specs.declared.program.Program.{Program};
 ghost use Rattle.hys_type.specs.Translation.{IsTranslation};
 ghost use Rattle.hys_type.specs.Views.{by_places, by_texts};
+ghost use Rattle.hys_type.specs.ProgramTrees.{program_tree};
 ghost use Rattle.hys_type.specs.SameMeaning.{Translates, StepsByPlaces, StepsByTexts, LegalByPlaces, LegalByTexts, CirclesByPlaces, CirclesByTexts};
 ghost use Rattle.hys_type.specs.SmallProgram.{small, small_program};
 ghost use Rattle.hys_type.specs.Checks.{fault_of};
@@ -69,6 +70,13 @@ pub fn same_meaning()
         LegalByPlaces tolerance (unfolded s) p }
     ensures legal_by_texts { (tolerance : Number) (s : Source) (p : Program) → Translates tolerance s p →
         LegalByTexts tolerance (unfolded s) p }
+{}
+
+/// A source has one translation at a tolerance: any two have the same names, the same items with the same
+/// forms and formulas, and the same weight.
+pub fn one_translation()
+    ensures { (tolerance : Number) (s : Source) (p q : Program) → IsTranslation tolerance s p →
+        IsTranslation tolerance s q → program_tree p ≡ program_tree q }
 {}
 
 /// The translation of a source that keeps the rules of typing is a program, where the declarations of the
