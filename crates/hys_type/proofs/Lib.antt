@@ -87,3 +87,6 @@ pub mod RulesKept
 pub mod Zeros
 pub mod OneForm
 pub mod OneTranslation
+pub mod SameValues
+pub mod OneOrOther
+pub mod RichTranslation

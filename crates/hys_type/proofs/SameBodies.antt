@@ -186,20 +186,20 @@ real_output ns (Some m) w e h t = let s : m.kind ≡ kind.Real = some_kind m.kin
 
 -- ---- bodies
 module _ (c : Setting) (w : Assignment) (v : PlaceAssignment) (a : Agree 0 c.names w v) (d : Differ (texts_of c.names)) (g : HasParameters w c.names) (u : HasParameters c.values c.names) where
-  real_places : (e : Tree) (f : Affine) → IsReal c.names e → IsFormOf c.names (form c.names e) f → value w e ≡ form_value f v
+  pub real_places : (e : Tree) (f : Affine) → IsReal c.names e → IsFormOf c.names (form c.names e) f → value w e ≡ form_value f v
   real_places e f r h = real_number c.names w d g e r ∙ sym (value_places c.names (form c.names e) f w v h a)
 
-  guard_places : (e : Tree) (f : Affine) → IsComparison is_inequality c.names e → IsFormOf c.names (guard_form c.names e) f → guard_number w e ≡ form_value f v
+  pub guard_places : (e : Tree) (f : Affine) → IsComparison is_inequality c.names e → IsFormOf c.names (guard_form c.names e) f → guard_number w e ≡ form_value f v
   guard_places e f r h = guard_value c.names w d g e r ∙ sym (value_places c.names (guard_form c.names e) f w v h a)
 
-  difference_places : (x y : Tree) (f : Affine) → IsReal c.names x → IsReal c.names y → IsFormOf c.names (difference_form c.names x y) f → value w x -ₙ value w y ≡ form_value f v
+  pub difference_places : (x y : Tree) (f : Affine) → IsReal c.names x → IsReal c.names y → IsFormOf c.names (difference_form c.names x y) f → value w x -ₙ value w y ≡ form_value f v
   difference_places x y f r s h = difference_value c.names w d g x y r s ∙ sym (value_places c.names (difference_form c.names x y) f w v h a)
 
-  else_places : (o : Option Tree) (f : Affine) → IsMaybe (IsReal c.names) o → IsFormOf c.names (else_form c.names o) f → else_value w o ≡ form_value f v
+  pub else_places : (o : Option Tree) (f : Affine) → IsMaybe (IsReal c.names) o → IsFormOf c.names (else_form c.names o) f → else_value w o ≡ form_value f v
   else_places (Some e) f r h = real_places e f r h
   else_places None f r h = constant_number c.names (whole 0) w ∙ sym (value_places c.names (else_form c.names None) f w v h a)
 
-  formula_places : (e : Tree) (l : Formula) → IsFormula c.names e → IsFormulaOf c.names e l → truth w e ≡ formula_truth (tree_of l) v
+  pub formula_places : (e : Tree) (l : Formula) → IsFormula c.names e → IsFormulaOf c.names e l → truth w e ≡ formula_truth (tree_of l) v
   formula_places e l r h = sym (truth_places c.names w v a g e l r h)
 
   -- ---- demands and gaps

@@ -25,15 +25,15 @@ use Rattle.hys_prog.specs.declared.program.Body.TheVariants as means
 use Rattle.hys_type.specs.Translation.{Setting, IsBodyOf, choice, linear, next_bool, out_bool, out_real, must_zero, IsTranslation, IsNamedTranslation, IsNameOf, OneByOne, IsFormOf, IsItemOf, setting, guard, logic, next_real, must_most, must_hold}
 use Rattle.hys_type.specs.SmallProgram.{small, small_by, small_program}
 
-two_is_not_zero : ¬ (whole 2 ≡ whole 0)
+pub two_is_not_zero : ¬ (whole 2 ≡ whole 0)
 unfolding whole make gcd
 two_is_not_zero e = let f = ap (λ (x : Number). x.num) e in absurd (cc)
 
-one_is_not_zero : ¬ (whole 1 ≡ whole 0)
+pub one_is_not_zero : ¬ (whole 1 ≡ whole 0)
 unfolding whole make gcd
 one_is_not_zero e = let f = ap (λ (x : Number). x.num) e in absurd (cc)
 
-minus_one_is_not_zero : ¬ (neg (whole 1) ≡ whole 0)
+pub minus_one_is_not_zero : ¬ (neg (whole 1) ≡ whole 0)
 unfolding whole make gcd neg
 minus_one_is_not_zero e = let f = ap (λ (x : Number). x.num) e in absurd (cc)
 

@@ -12,6 +12,8 @@ pub mod Examples
 pub mod Translation
 pub mod Views
 pub mod ProgramTrees
+pub mod ItemValues
+pub mod RichProgram
 pub mod Rules
 pub mod Declaring
 pub mod SameMeaning

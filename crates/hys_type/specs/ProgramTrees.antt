@@ -1,5 +1,5 @@
--- A program without pointers: in place of its formulas stand their trees. Programs with the same tree differ in nothing but
--- where their formulas lie in memory.
+-- A program without pointers: in place of its formulas stand their trees. Programs with the same tree differ in nothing
+-- but where their formulas lie in memory.
 use Rattle.std.specs.Prelude.{ℕ, List, Option, map}
 use Rattle.hys_number.specs.Number.{Number}
 use Rattle.hys_lin.specs.declared.form.Affine.{Affine}

@@ -22,8 +22,11 @@ ghost use Rattle.hys_prog.specs.declared.program.Program.{Program};
 ghost use Rattle.hys_type.specs.Translation.{IsTranslation};
 ghost use Rattle.hys_type.specs.Views.{by_places, by_texts};
 ghost use Rattle.hys_type.specs.ProgramTrees.{program_tree};
-ghost use Rattle.hys_type.specs.SameMeaning.{Translates, StepsByPlaces, StepsByTexts, LegalByPlaces, LegalByTexts, CirclesByPlaces, CirclesByTexts};
+ghost use Rattle.hys_type.specs.SameMeaning.{Translates, StepsByPlaces, StepsByTexts, LegalByPlaces, LegalByTexts, CirclesByPlaces, CirclesByTexts, ValuesByPlaces, ValuesByTexts};
 ghost use Rattle.hys_type.specs.SmallProgram.{small, small_program};
+ghost use Rattle.hys_type.specs.RichProgram.{rich, rich_program, when_tree, next_tree, demand_tree};
+ghost use Rattle.hys_formula.specs.declared.formula.Formula.{Formula};
+ghost use Rattle.hys_formula.specs.Formulas.{tree_of as formula_of};
 ghost use Rattle.hys_type.specs.Checks.{fault_of};
 ghost use Rattle.hys_type.specs.Examples.{spot, name, zero_at, ten_at, state, output, next, source, stepping};
 ghost use Rattle.hys_type.specs.declared.fault.TypeFault.TheVariants as fault;
@@ -72,6 +75,15 @@ pub fn same_meaning()
         LegalByTexts tolerance (unfolded s) p }
 {}
 
+/// Under every assignment that has the values of the parameters each item of a translation says what the
+/// item of its source says: the same number or truth, and a guard has its own tolerance.
+pub fn same_values()
+    ensures by_places { (tolerance : Number) (s : Source) (p : Program) → Translates tolerance s p →
+        ValuesByPlaces tolerance (unfolded s) p }
+    ensures by_texts { (tolerance : Number) (s : Source) (p : Program) → Translates tolerance s p →
+        ValuesByTexts tolerance (unfolded s) p }
+{}
+
 /// A source has one translation at a tolerance: any two have the same names, the same items with the same
 /// forms and formulas, and the same weight.
 pub fn one_translation()
@@ -102,4 +114,12 @@ pub fn small_translation()
     ensures typed { (tolerance : Number) → Translates tolerance small (small_program tolerance (whole 2)) }
     ensures only { (tolerance eps factor : Number) →
         IsTranslation tolerance small (small_program eps factor) ↔ ((eps ≡ tolerance) × (factor ≡ whole 2)) }
+{}
+
+/// The program of a source with items of every kind, two unnamed guards among them: the formulas that have
+/// the trees of its choice, of its next value and of its demand are all that it leaves open.
+pub fn rich_translation()
+    ensures { (tolerance : Number) (when next demand : Formula) → formula_of when ≡ when_tree →
+        formula_of next ≡ next_tree → formula_of demand ≡ demand_tree →
+        Translates tolerance rich (rich_program tolerance when next demand) }
 {}
