@@ -85,6 +85,7 @@ pub mod GuardPlaces
 pub mod TypingRules
 pub mod RulesKept
 pub mod Zeros
+pub mod Tops
 pub mod OneForm
 pub mod OneTranslation
 pub mod SameValues

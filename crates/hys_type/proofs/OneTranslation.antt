@@ -27,6 +27,7 @@ use Rattle.hys_prog.specs.declared.program.Program.{Program}
 use Rattle.hys_type.specs.Checks.{has_top}
 use Rattle.hys_type.specs.ProgramTrees.{BodyTree, Guard, Choice, Logic, Linear, NextBool, NextReal, OutBool, OutReal, MustHold, MustMost, MustZero, body_tree, ItemTree, item_tree, ProgramTree, program_tree}
 use Rattle.hys_type.specs.Translation.{Setting, setting, place_if, left_kind, else_form, difference_form, formula, IsNameOf, OneByOne, IsBodyOf, guard, choice, logic, linear, next_bool, next_real, out_bool, out_real, must_hold, must_most, must_zero, IsItemOf, IsNamedTranslation, IsTranslation}
+use Rattle.hys_type.proofs.Tops.{no_comparison_at, inequality_at}
 use Rattle.hys_type.proofs.OneForm.{only, only_form}
 
 -- ---- bodies
@@ -67,21 +68,8 @@ holds_as c (tree.Name n p) h = refl
 holds_as c (tree.Truth b p) h = refl
 holds_as c (tree.Cast n p) h = refl
 holds_as c (tree.Unary op a p) h = refl
-holds_as c (tree.Binary op a b p) h = go op h
-  where
-    go : (op : BinaryOp) → is_comparison op ≡ false → compared_as c op a b p ≡ MustHold (formula c.names (tree.Binary op a b p))
-    go binary.Add h = refl
-    go binary.Sub h = refl
-    go binary.Mul h = refl
-    go binary.Div h = refl
-    go binary.And h = refl
-    go binary.Or h = refl
-    go binary.Iff h = refl
-    go binary.Then h = refl
-    go binary.From h = refl
-    go binary.Most h = absurd (cc)
-    go binary.Least h = absurd (cc)
-    go binary.Equal h = absurd (cc)
+holds_as c (tree.Binary op a b p) h =
+    no_comparison_at (λ (o : BinaryOp). compared_as c o a b p ≡ MustHold (formula c.names (tree.Binary o a b p))) refl refl refl refl refl refl refl refl refl op h
 
 most_as : (c : Setting) (e : Tree) → has_top is_inequality e ≡ true → demand_as c e ≡ MustMost (only c.names (guard_form c.names e))
 most_as c (tree.Number text p) h = absurd (cc)
@@ -89,21 +77,8 @@ most_as c (tree.Name n p) h = absurd (cc)
 most_as c (tree.Truth b p) h = absurd (cc)
 most_as c (tree.Cast n p) h = absurd (cc)
 most_as c (tree.Unary op a p) h = absurd (cc)
-most_as c (tree.Binary op a b p) h = go op h
-  where
-    go : (op : BinaryOp) → is_inequality op ≡ true → compared_as c op a b p ≡ MustMost (only c.names (guard_form c.names (tree.Binary op a b p)))
-    go binary.Add h = absurd (cc)
-    go binary.Sub h = absurd (cc)
-    go binary.Mul h = absurd (cc)
-    go binary.Div h = absurd (cc)
-    go binary.And h = absurd (cc)
-    go binary.Or h = absurd (cc)
-    go binary.Iff h = absurd (cc)
-    go binary.Then h = absurd (cc)
-    go binary.From h = absurd (cc)
-    go binary.Most h = refl
-    go binary.Least h = refl
-    go binary.Equal h = absurd (cc)
+most_as c (tree.Binary op a b p) h =
+    inequality_at (λ (o : BinaryOp). compared_as c o a b p ≡ MustMost (only c.names (guard_form c.names (tree.Binary o a b p)))) refl refl op h
 
 abbrev body_as : Setting → Option Kind → said.Body → BodyTree
 body_as c k (said.Guard e t) = Guard (only c.names (guard_form c.names e)) (tolerance_of c.tolerance c.values t)

@@ -29,6 +29,7 @@ use Rattle.hys_type.specs.ItemValues.{demanded, compared, said_value, said_toler
 use Rattle.hys_type.specs.SameMeaning.{Translates, HasParameters, ValuesByPlaces, ValuesByTexts}
 use Rattle.hys_type.specs.Translation.{Setting, setting, OneByOne, IsBodyOf, guard, choice, logic, linear, next_bool, next_real, out_bool, out_real, must_hold, must_most, must_zero, IsItemOf, left_kind, kind_of}
 use Rattle.hys_type.specs.Views.{by_places, by_texts}
+use Rattle.hys_type.proofs.Tops.{no_comparison_at, inequality_at}
 use Rattle.hys_type.proofs.Agree.{Agree, texts_of, agree_places, agree_texts}
 use Rattle.hys_type.proofs.SameBodies.{real_places, guard_places, difference_places, else_places, formula_places, same_tolerance, the_formula, the_inequality, the_difference, bool_output, real_output}
 use Rattle.hys_type.proofs.SameSteps.{names_differ, own_values}
@@ -40,21 +41,8 @@ demanded_formula w (tree.Name n p) h = refl
 demanded_formula w (tree.Truth b p) h = refl
 demanded_formula w (tree.Cast n p) h = refl
 demanded_formula w (tree.Unary op a p) h = refl
-demanded_formula w (tree.Binary op a b p) h = go op h
-  where
-    go : (op : BinaryOp) → is_comparison op ≡ false → compared w op a b p ≡ bit (truth w (tree.Binary op a b p))
-    go binary.Add h = refl
-    go binary.Sub h = refl
-    go binary.Mul h = refl
-    go binary.Div h = refl
-    go binary.And h = refl
-    go binary.Or h = refl
-    go binary.Iff h = refl
-    go binary.Then h = refl
-    go binary.From h = refl
-    go binary.Most h = absurd (cc)
-    go binary.Least h = absurd (cc)
-    go binary.Equal h = absurd (cc)
+demanded_formula w (tree.Binary op a b p) h =
+    no_comparison_at (λ (o : BinaryOp). compared w o a b p ≡ bit (truth w (tree.Binary o a b p))) refl refl refl refl refl refl refl refl refl op h
 
 demanded_guard : (w : Assignment) (e : Tree) → has_top is_inequality e ≡ true → demanded w e ≡ guard_number w e
 demanded_guard w (tree.Number text p) h = absurd (cc)
@@ -62,21 +50,8 @@ demanded_guard w (tree.Name n p) h = absurd (cc)
 demanded_guard w (tree.Truth b p) h = absurd (cc)
 demanded_guard w (tree.Cast n p) h = absurd (cc)
 demanded_guard w (tree.Unary op a p) h = absurd (cc)
-demanded_guard w (tree.Binary op a b p) h = go op h
-  where
-    go : (op : BinaryOp) → is_inequality op ≡ true → compared w op a b p ≡ guard_number w (tree.Binary op a b p)
-    go binary.Add h = absurd (cc)
-    go binary.Sub h = absurd (cc)
-    go binary.Mul h = absurd (cc)
-    go binary.Div h = absurd (cc)
-    go binary.And h = absurd (cc)
-    go binary.Or h = absurd (cc)
-    go binary.Iff h = absurd (cc)
-    go binary.Then h = absurd (cc)
-    go binary.From h = absurd (cc)
-    go binary.Most h = refl
-    go binary.Least h = refl
-    go binary.Equal h = absurd (cc)
+demanded_guard w (tree.Binary op a b p) h =
+    inequality_at (λ (o : BinaryOp). compared w o a b p ≡ guard_number w (tree.Binary o a b p)) refl refl op h
 
 -- ---- bodies
 module _ (c : Setting) (w : Assignment) (v : PlaceAssignment) (a : Agree 0 c.names w v) (d : Differ (texts_of c.names)) (g : HasParameters w c.names) (u : HasParameters c.values c.names) where

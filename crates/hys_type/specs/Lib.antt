@@ -25,3 +25,4 @@ pub mod TwoFaults
 pub mod Written
 pub mod DeclarationKeeping
 pub mod Added
+pub mod Scopes

@@ -79,7 +79,8 @@ da_item e = item section.Da (Some (codes "z")) 30 (tree.Choice (two binary.And (
 
 abbrev next_items : List Item → List Item
 next_items more =
-    item section.Linear (Some (codes "v")) 40 (tree.Plain (two binary.Sub (name (codes "x") 41) 42 (name (codes "z") 43)))
+    item section.Linear (Some (codes "v")) 40
+    (tree.Plain (two binary.Sub (name (codes "x") 41) 42 (name (codes "z") 43)))
     ∷ item section.Automata (Some (codes "s")) 50
     (tree.Plain (two binary.Or (tree.Unary unary.Not (name (codes "d") 52) (spot 51)) 53 (name (codes "b") 54)))
     ∷ item section.Continuous (Some (codes "x")) 55
@@ -165,7 +166,8 @@ rich_program tolerance when next demand = record {
       ∷ [];
   items = made (Some 9) 20 (means.Guard (form (term 0 (whole 1) ∷ term 2 (whole 1) ∷ []) (neg (whole 2))) (whole 3))
       ∷ made (Some 10) 34 (means.Guard (form (term 0 (neg (whole 1)) ∷ []) (whole 1)) tolerance)
-      ∷ made (Some 7) 30 (means.Choice when (form (term 0 (whole 2) ∷ []) (whole 0)) (form (term 2 (whole 1) ∷ []) (whole 0)))
+      ∷ made (Some 7) 30 (means.Choice when
+      (form (term 0 (whole 2) ∷ []) (whole 0)) (form (term 2 (whole 1) ∷ []) (whole 0)))
       ∷ made (Some 8) 40 (means.Linear (form (term 0 (whole 1) ∷ term 7 (neg (whole 1)) ∷ []) (whole 0)))
       ∷ made (Some 1) 50 (means.NextBool next)
       ∷ made (Some 0) 55 (means.NextReal (form (term 8 (whole 1) ∷ term 9 (whole 1) ∷ []) (whole 0)))

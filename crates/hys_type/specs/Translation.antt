@@ -171,7 +171,8 @@ pub record Setting : Type 0 where
 pub data IsBodyOf (c : Setting) (k : Option Kind) (s : said.Body) (b : Body) : Type 0 where
   guard : {e : Tree} {t : Option Tree} {f : Affine} {eps : Number} → s ≡ said.Guard e t → b ≡ means.Guard f eps →
       IsFormOf c.names (guard_form c.names e) f → eps ≡ tolerance_of c.tolerance c.values t → IsBodyOf c k s b
-  choice : {e h : Tree} {o : Option Tree} {l : Formula} {f g : Affine} → s ≡ said.Choice e h o → b ≡ means.Choice l f g →
+  choice : {e h : Tree} {o : Option Tree} {l : Formula} {f g : Affine} →
+      s ≡ said.Choice e h o → b ≡ means.Choice l f g →
       IsFormulaOf c.names e l → IsFormOf c.names (form c.names h) f → IsFormOf c.names (else_form c.names o) g →
       IsBodyOf c k s b
   logic : {e : Tree} {l : Formula} → s ≡ said.Logic e → b ≡ means.Logic l → IsFormulaOf c.names e l → IsBodyOf c k s b

@@ -145,7 +145,8 @@ fn assemble(alloc: Global, source: &Source, eps: Frac, judged: Judged) -> Result
     ensures system { IfOk result (λ p. p.system ≡ source.now.system) }
     ensures items { IfOk result (λ p. AreAdded (setting_of (map seen judged.scope.items) judged.known.items eps)
         (map item_of source.now.items) (lists judged.names.items []) (lists p.names p.items)) }
-    ensures weight { IfOk result (λ p. p.weight ≡ names_weight p.names + sum_by item_weight (map item_of source.now.items)) }
+    ensures weight { IfOk result (λ p.
+        p.weight ≡ names_weight p.names + sum_by item_weight (map item_of source.now.items)) }
     ensures few { IfOk result (λ p. length p.names < 2 ^ 63) }
 {
     let Judged {
@@ -174,7 +175,8 @@ pub fn program(alloc: Global, source: &Source, eps: Frac) -> Result<Program, Typ
     ensures fault { Answers result (checks (source_of source.now)) }
     ensures one_or_other { IsOneOrOther (fault_of (source_of source.now)) result }
     ensures system { IfOk result (λ p. p.system ≡ source.now.system) }
-    ensures weight { IfOk result (λ p. p.weight ≡ names_weight p.names + sum_by item_weight (map item_of source.now.items)) }
+    ensures weight { IfOk result (λ p.
+        p.weight ≡ names_weight p.names + sum_by item_weight (map item_of source.now.items)) }
     ensures source_weight { IfOk result (λ p. p.weight ≡ weight (source_of source.now)) }
     ensures names { IfOk result (λ p. AreDeclaredFirst (parameters (map decl_of source.now.decls))
         (map decl_of source.now.decls) p.names) }
