@@ -87,7 +87,8 @@ fn declared_form(
     name: &Text,
     found: &Declared,
 ) -> Result<Dense, AllocError>
-    ensures { IfOk result (λ d. IsDense (map seen scope.now) (parameter_or name.now found.now.value (is_parameter found.now.section)) d) }
+    ensures { IfOk result (λ d.
+        IsDense (map seen scope.now) (parameter_or name.now found.now.value (is_parameter found.now.section)) d) }
 {
     if is_parameter(found.section) {
         number_form(alloc, scope, found.value)
@@ -205,7 +206,8 @@ pub fn folded(
 #[tactic(auto, using(crate::proofs::Operands::spread_length))]
 fn product(alloc: Global, left: &Dense, right: &Dense, place: Place) -> Result<Node, TypeFault>
     requires same { length left.now.factors ≡ length right.now.factors }
-    ensures fault { Answers result (linear binary.Mul left.now right.now place ++ in_range place (multiplied (has_none left.now) left.now right.now)) }
+    ensures fault { Answers result (linear binary.Mul left.now right.now place
+        ++ in_range place (multiplied (has_none left.now) left.now right.now)) }
     ensures node { IfOk result (λ n. n ≡ node.Real (product (has_none left.now) left.now right.now)) }
 {
     if is_constant(left) {
@@ -231,7 +233,8 @@ fn is_zero(number: Frac) -> bool
 #[tactic(auto, using(crate::proofs::Operands::spread_length, crate::proofs::Operands::not_zero, crate::proofs::Operands::each_divisor))]
 fn quotient(alloc: Global, left: &Dense, right: &Dense, place: Place) -> Result<Node, TypeFault>
     requires same { length left.now.factors ≡ length right.now.factors }
-    ensures fault { Answers result (linear binary.Div left.now right.now place ++ in_range place (folded_by operation.Div left.now (spread right.now))) }
+    ensures fault { Answers result (linear binary.Div left.now right.now place
+        ++ in_range place (folded_by operation.Div left.now (spread right.now))) }
     ensures node { IfOk result (λ n. n ≡ node.Real (folded_form operation.Div left.now (spread right.now))) }
 {
     if !is_constant(right) {
