@@ -8,3 +8,4 @@ pub mod Values
 pub mod Summed
 pub mod Multiplying
 pub mod Nodes
+pub mod Finishing

@@ -4,3 +4,5 @@ pub mod Ranging
 pub mod Leave
 pub mod Enter
 pub mod Costs
+pub mod Relaxing
+pub mod Choosing

@@ -3,12 +3,20 @@
 #![tactic(auto)]
 
 mod bound;
+mod choice;
 mod end;
 mod entering;
+mod finish;
 mod multipliers;
 mod node;
 mod off_range;
+mod point;
 mod products;
 mod raised;
 mod ranges;
+mod relaxed;
 mod stand;
+mod warm;
+
+pub use relaxed::Relaxed;
+pub use warm::{Warm, first};
