@@ -9,3 +9,6 @@ pub mod Summed
 pub mod Multiplying
 pub mod Nodes
 pub mod Finishing
+pub mod Goings
+pub mod Ends
+pub mod Solved

@@ -1,5 +1,5 @@
 -- What is answered of the relaxed points of a node, and what a tableau holds that is kept for a later call.
-use Rattle.std.specs.Prelude.{◌≡◌, ℕ, ◌<◌, ◌≤◌, ◌++◌, List, length, take, None}
+use Rattle.std.specs.Prelude.{◌≡◌, ℕ, ◌<◌, ◌≤◌, ◌++◌, List, [], length, take, None}
 use Rattle.std.specs.List.{AllByRecursion}
 use Rattle.hys_number.specs.Number.{Number}
 use Rattle.hys_number.specs.Ops.{◌≤ₙ◌, ◌<ₙ◌, whole, fits}
@@ -18,7 +18,7 @@ use Rattle.hys_simplex.specs.Rule.{IsBlocked}
 use Rattle.hys_simplex.specs.Path.{IsPathAt, tableau_after, IsRun}
 use Rattle.hys_simplex.specs.Unfit.{Unfit}
 use Rattle.hys_simplex.specs.Alike.{IsAlike}
-use Rattle.hys_tab.specs.Table.{tableau_of}
+use Rattle.hys_tab.specs.Table.{Table, tableau_of}
 use Rattle.hys_dual.specs.declared.relaxed.Relaxed.{Relaxed}
 use Rattle.hys_dual.specs.declared.relaxed.Relaxed.TheVariants.{Least, Never, Stuck}
 use Rattle.hys_dual.specs.declared.warm.Warm.{Warm}
@@ -61,10 +61,13 @@ IsRelaxed p fixings (Never m) = IsNever p fixings m.pairs
 IsRelaxed p fixings (Stuck shown m) = IsStuck p fixings shown m.pairs
 
 -- ---- tableaux that are kept
--- the path is ruled at the node, and the tableau is the problem's after it
-pub record IsWarm (p : Problem) (fixings : List Fixing) (w : Warm) : Type 0 where
-  pub ruled : IsPathAt p fixings w.path
-  pub reached : IsAlike (tableau_of w.tableau) (tableau_after p w.path)
+-- the path is ruled at the node, and the table is the problem's tableau after it
+pub record IsWarmAt (p : Problem) (fixings : List Fixing) (t : Table) (path : List (ℕ × ℕ)) : Type 0 where
+  pub ruled : IsPathAt p fixings path
+  pub reached : IsAlike (tableau_of t) (tableau_after p path)
+
+abbrev pub IsWarm : Problem → List Fixing → Warm → Type 0
+IsWarm p fixings w = IsWarmAt p fixings w.tableau w.path
 
 -- the new path begins with the old one; what is added are pivots of the rule over the node's boxes, and among the
 -- statuses before, between and after these none comes twice
@@ -92,3 +95,9 @@ abbrev pub EndsAfter : Problem → List Fixing → List (ℕ × ℕ) → Relaxed
 EndsAfter p fixings path (Least v m) = IsPointAfter p fixings path v.values
 EndsAfter p fixings path (Never m) = IsClosed p fixings path
 EndsAfter p fixings path (Stuck shown m) = shown.path ≡ path
+
+-- the same, where the path began at the slack basis
+pub record EndsFromStart (p : Problem) (fixings : List Fixing) (r : Relaxed) : Type 0 where
+  pub path : List (ℕ × ℕ)
+  pub ruled : GoesOn p fixings [] path
+  pub ends : EndsAfter p fixings path r

@@ -15,8 +15,11 @@ mod products;
 mod raised;
 mod ranges;
 mod relaxed;
+mod run;
+mod solver;
 mod stand;
 mod warm;
 
 pub use relaxed::Relaxed;
+pub use solver::{solve, solve_from};
 pub use warm::{Warm, first};
