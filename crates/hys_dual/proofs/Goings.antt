@@ -92,7 +92,7 @@ pub one_added : (p : Problem) (fixings : List Fixing) (old path : List (ℕ × �
     IsRuled (linear_program p) (node_boxes p fixings) (tableau_after p path) r c → GoesOn p fixings old (path ++ (r, c) ∷ [])
 one_added p fixings old path r c h w g q =
     let run : IsRun (linear_program p) (node_boxes p fixings) (tableau_after p old) (g.added ++ (r, c) ∷ []) = run_grows (linear_program p) (node_boxes p fixings) (tableau_after p old) g.added r c g.ruled
-        (subst (λ T. IsRuled (linear_program p) (node_boxes p fixings) T r c) (ap (tableau_after p) g.path ∙ after_append (start (linear_program p)) old g.added) q) in
+    (subst (λ T. IsRuled (linear_program p) (node_boxes p fixings) T r c) (ap (tableau_after p) g.path ∙ after_append (start (linear_program p)) old g.added) q) in
     record {
       added = g.added ++ (r, c) ∷ [];
       path = ap (λ z. z ++ (r, c) ∷ []) g.path ∙ append_assoc old g.added ((r, c) ∷ []);

@@ -12,3 +12,4 @@ pub mod Finishing
 pub mod Goings
 pub mod Ends
 pub mod Solved
+pub mod Lawful

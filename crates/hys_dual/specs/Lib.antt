@@ -6,3 +6,4 @@ pub mod Enter
 pub mod Costs
 pub mod Relaxing
 pub mod Choosing
+pub mod Laws

@@ -89,9 +89,7 @@ fn left(
     requires leaving { IsLeaving (linear_program problem.now) (box_at boxes.now) (tableau_of tableau.now) off.row (side_of off.under) off.near }
     ensures { IfOk result (λ q. IsChoice problem.now (box_at boxes.now) (tableau_of tableau.now) q) }
 {
-    match entering(
-        problem, boxes, tableau, stands, ends, off.row, off.under,
-    ) {
+    match entering(problem, boxes, tableau, stands, ends, off.row, off.under) {
         Some(column) => Ok(Choice::Pivot(off.row, column)),
         None => {
             let finish = never(alloc, problem, boxes, tableau, stands, off)?;

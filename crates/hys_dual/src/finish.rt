@@ -10,7 +10,9 @@ pub enum Finish {
         multipliers: Multipliers,
     },
     /// No column may enter: the multipliers of the row that leaves.
-    Never { multipliers: Multipliers },
+    Never {
+        multipliers: Multipliers,
+    },
     /// The place of a number that doesn't fit.
     Stuck(TablePlace),
 }

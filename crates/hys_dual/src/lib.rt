@@ -7,6 +7,7 @@ mod choice;
 mod end;
 mod entering;
 mod finish;
+pub mod laws;
 mod multipliers;
 mod node;
 mod off_range;

@@ -10,7 +10,9 @@ pub enum Relaxed {
         multipliers: Multipliers,
     },
     /// Multipliers that show that there is no relaxed point.
-    Never { multipliers: Multipliers },
+    Never {
+        multipliers: Multipliers,
+    },
     /// A number that doesn't fit, and multipliers whose bound is at least the plain bound.
     Stuck {
         at: RangeAt,
