@@ -3,3 +3,4 @@ pub mod Adding
 pub mod Placing
 pub mod Meaning
 pub mod Whole
+pub mod Worked

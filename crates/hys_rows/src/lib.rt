@@ -11,6 +11,7 @@ mod formula;
 mod fresh;
 mod guard;
 mod item;
+pub mod laws;
 mod moved;
 mod range;
 
