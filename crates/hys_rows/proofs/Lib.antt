@@ -3,3 +3,5 @@ pub mod Adding
 pub mod Placing
 pub mod Meaning
 pub mod Whole
+pub mod Worked
+pub mod Trying

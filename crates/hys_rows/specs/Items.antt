@@ -52,6 +52,10 @@ pub record AreColumns (names : List Name) (columns : List ℕ) (k count : ℕ) :
   pub booleans : (n : ℕ) → NameAt names n IsBooleanVariable → column_in columns n < k
   pub reals : (n : ℕ) → NameAt names n (Has Aux Real) → k + count ≤ column_in columns n
 
+-- the columns of Boolean states, inputs and auxiliaries are the same
+abbrev pub AreAlike : List Name → List ℕ → List ℕ → Type 0
+AreAlike names columns others = (n : ℕ) → NameAt names n IsBooleanVariable → column_in columns n ≡ column_in others n
+
 -- The body is over the names, the item defines a name that its body suits, or none where it demands something, and the
 -- name isn't mentioned in its own definition.
 pub record IsItem (names : List Name) (t : ProgItem) : Type 0 where

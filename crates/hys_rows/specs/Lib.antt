@@ -3,3 +3,4 @@ pub mod Items
 pub mod Parts
 pub mod Numbers
 pub mod Adding
+pub mod Example

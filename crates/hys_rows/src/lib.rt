@@ -11,6 +11,7 @@ mod formula;
 mod fresh;
 mod guard;
 mod item;
+pub mod laws;
 mod moved;
 mod range;
 
@@ -18,3 +19,6 @@ pub use added::Added;
 pub use fault::RowFault;
 pub use fresh::fresh_in;
 pub use item::add_item;
+
+#[cfg(test)]
+mod tests;
