@@ -46,7 +46,7 @@ pub enum Node {
 fn number_form(alloc: Global, scope: &[Declared], number: Frac) -> Result<Dense, AllocError>
     ensures { IfOk result (λ d. IsDense (map seen scope.now) (number_form number) d) }
 {
-    let mut factors = Vec::new(alloc);
+    let mut factors = Vec::with_capacity(alloc, scope.len())?;
     for _ in scope {
         factors.push(Frac::whole(0))?;
     }
@@ -56,6 +56,7 @@ fn number_form(alloc: Global, scope: &[Declared], number: Frac) -> Result<Dense,
     })
 }
 
+#[inline(always)]
 fn unit_factor(name: &Text, declared: &Declared) -> Frac
     ensures { result ≡ cond (bytes_eq name.now declared.now.text) (whole 1) (whole 0) }
 {
@@ -70,7 +71,7 @@ fn unit_factor(name: &Text, declared: &Declared) -> Frac
 fn unit_form(alloc: Global, scope: &[Declared], name: &Text) -> Result<Dense, AllocError>
     ensures { IfOk result (λ d. IsDense (map seen scope.now) (unit_form name.now) d) }
 {
-    let mut factors = Vec::new(alloc);
+    let mut factors = Vec::with_capacity(alloc, scope.len())?;
     for declared in scope {
         factors.push(unit_factor(name, declared))?;
     }
@@ -153,7 +154,7 @@ fn cast(alloc: Global, scope: &[Declared], name: &Text, place: Place) -> Result<
 fn negated(alloc: Global, form: &Dense) -> Result<Dense, AllocError>
     ensures { IfOk result (λ r. r ≡ negated form.now) }
 {
-    let mut factors = Vec::new(alloc);
+    let mut factors = Vec::with_capacity(alloc, form.factors.items().len())?;
     for factor in form.factors.items() {
         factors.push(factor.neg())?;
     }
