@@ -66,9 +66,6 @@ range_lost p (o ∷ os) l h = one (fits (outcome o)) (range_lost p os l) h
     one true k h = k h
     one false k h = cc
 
-pub range_shown : (T : Type 0) (p : Place) (os : List Lost) (e : LinFault) (l : Lost) → e ≡ Shown l → AnswersLost {T = T} (Err e) os → Some (fault.Range p l) ≡ first_fault (in_range p os)
-range_shown T p os e l h w = range_lost p os l (sym (subst (λ (x : LinFault). AnswersLost {T = T} (Err x) os) h w))
-
 -- ---- divisors
 zero_is : is_zero (whole 0) ≡ true
 unfolding is_zero whole make gcd

@@ -1,4 +1,4 @@
--- The operators that are no comparisons, and those that are inequalities: a property of each of them is one of all.
+-- Cases of operators: a property of each of them is one of all, of each that is no comparison, or of each inequality.
 use Rattle.std.proofs.Common.{◌≡◌, true, false}
 use Rattle.hys_ast.specs.declared.tree.BinaryOp.{BinaryOp}
 use Rattle.hys_ast.specs.declared.tree.BinaryOp.TheVariants as binary
@@ -33,3 +33,18 @@ inequality_at P most least binary.From h = absurd (cc)
 inequality_at P most least binary.Most h = most
 inequality_at P most least binary.Least h = least
 inequality_at P most least binary.Equal h = absurd (cc)
+
+pub operator_at : (P : BinaryOp → Type 0) → P binary.Add → P binary.Sub → P binary.Mul → P binary.Div → P binary.And → P binary.Or → P binary.Iff → P binary.Then → P binary.From → P binary.Most → P binary.Least → P binary.Equal →
+    (op : BinaryOp) → P op
+operator_at P add sub mul div both either iff after before most least equal binary.Add = add
+operator_at P add sub mul div both either iff after before most least equal binary.Sub = sub
+operator_at P add sub mul div both either iff after before most least equal binary.Mul = mul
+operator_at P add sub mul div both either iff after before most least equal binary.Div = div
+operator_at P add sub mul div both either iff after before most least equal binary.And = both
+operator_at P add sub mul div both either iff after before most least equal binary.Or = either
+operator_at P add sub mul div both either iff after before most least equal binary.Iff = iff
+operator_at P add sub mul div both either iff after before most least equal binary.Then = after
+operator_at P add sub mul div both either iff after before most least equal binary.From = before
+operator_at P add sub mul div both either iff after before most least equal binary.Most = most
+operator_at P add sub mul div both either iff after before most least equal binary.Least = least
+operator_at P add sub mul div both either iff after before most least equal binary.Equal = equal
