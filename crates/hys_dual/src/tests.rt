@@ -5,17 +5,17 @@ ghost use Rattle.hys_relax.specs.Worked.{worked};
 
 use crate::examples::{bare_problem, barred_problem, decaying_problem, equated_problem, plan};
 use crate::{Relaxed, first, solve, solve_from};
-use hys_frac::{Frac, List};
+use hys_frac::List;
 use hys_lin::{Problem, value};
 use hys_relax::{Fixing, RangeAt, TablePlace};
 use hys_tab::{Cell, Tableau, start};
 use std::alloc::{AllocError, Global};
 use std::test::Fail;
 
-// What an answer tells: the cost of its point, or one of the others.
+// What an answer tells: the two parts of the cost of its point, or one of the others.
 #[derive(Clone, Copy, Debug, PartialEq, Eq)]
 enum Told {
-    Cost(Frac),
+    Cost(i64, i64),
     NoCost,
     Never,
     Stuck,
@@ -30,7 +30,7 @@ fn tell(problem: &Problem, answer: &Relaxed) -> Told
                 return Told::NoCost;
             }
             match value(&problem.cost, point) {
-                Ok(cost) => Told::Cost(cost),
+                Ok(cost) => Told::Cost(cost.num(), cost.den()),
                 Err(_) => Told::NoCost,
             }
         }
@@ -95,10 +95,9 @@ fn at_leaf(alloc: Global, one: bool, other: bool) -> Result<Told, AllocError> {
     solved(alloc, &problem, fixings.as_slice())
 }
 
-// What is told of a child of the root, with the paths at the root and then at the child.
+// The paths at the root and then at a child.
 #[derive(Drop)]
 struct Walk {
-    child: Told,
     path: List<(u32, u32)>,
     longer: List<(u32, u32)>,
 }
@@ -108,10 +107,8 @@ fn go_on(alloc: Global, one: bool) -> Result<Walk, AllocError> {
     let begun = first(alloc, &problem)?;
     let (_, warm) = solve_from(alloc, &problem, &[], &begun)?;
     let fixings = first_fixed(alloc, &problem, one)?;
-    let (answer, last) = solve_from(alloc, &problem, fixings.as_slice(), &warm)?;
-    let child = tell(&problem, &answer);
+    let (_, last) = solve_from(alloc, &problem, fixings.as_slice(), &warm)?;
     Ok(Walk {
-        child,
         path: warm.path,
         longer: last.path,
     })
@@ -126,13 +123,33 @@ fn afresh(alloc: Global, one: bool) -> Result<List<(u32, u32)>, AllocError> {
     Ok(last.path)
 }
 
-// A number of the root's point.
-fn root_number(alloc: Global, place: usize) -> Result<Option<Frac>, AllocError> {
+// The two parts of a number of the root's point.
+fn root_number(alloc: Global, place: usize) -> Result<Option<(i64, i64)>, AllocError> {
     let problem = plan(alloc)?;
     match solve(alloc, &problem, &[])? {
-        Relaxed::Least { point, .. } => Ok(point.values.items().get(place).copied()),
+        Relaxed::Least { point, .. } => match point.values.items().get(place) {
+            Some(number) => Ok(Some((number.num(), number.den()))),
+            None => Ok(None),
+        },
         Relaxed::Never { .. } | Relaxed::Stuck { .. } => Ok(None),
     }
+}
+
+// Whether the paths at the root and then at a child are these.
+fn goes(
+    alloc: Global,
+    one: bool,
+    path: &[(u32, u32)],
+    longer: &[(u32, u32)],
+) -> Result<bool, AllocError> {
+    let walk = go_on(alloc, one)?;
+    Ok(walk.path.items() == path && walk.longer.items() == longer)
+}
+
+// Whether the path at a child from the slack basis on is this.
+fn begins(alloc: Global, one: bool, path: &[(u32, u32)]) -> Result<bool, AllocError> {
+    let made = afresh(alloc, one)?;
+    Ok(made.items() == path)
 }
 
 // ---- small problems
@@ -228,67 +245,63 @@ fn is_found(alloc: Global, shown: &RangeAt) -> Result<bool, AllocError> {
 }
 
 // ---- the rows
-fn part(num: i64, den: i64) -> Result<Frac, Fail> {
-    Ok(Frac::new(num, den).ok_or("a number of a row doesn't fit")?)
+#[derive(Clone, Copy)]
+enum Case {
+    Root,
+    Child(bool),
+    Leaf(bool, bool),
+    Equated,
+    Bare,
+    Barred,
 }
 
-fn cost(num: i64, den: i64) -> Result<Told, Fail> {
-    Ok(Told::Cost(part(num, den)?))
+fn tells(alloc: Global, case: Case) -> Result<Told, AllocError> {
+    match case {
+        Case::Root => at_root(alloc),
+        Case::Child(one) => at_child(alloc, one),
+        Case::Leaf(one, other) => at_leaf(alloc, one, other),
+        Case::Equated => equated_tells(alloc),
+        Case::Bare => bare_tells(alloc),
+        Case::Barred => barred_tells(alloc),
+    }
 }
 
-fn pivots(alloc: Global, all: &[(u32, u32)]) -> Result<List<(u32, u32)>, AllocError> {
-    Ok(List::of(Vec::from_slice(alloc, all)?))
-}
+const ROWS: [(Case, Told); 8] = [
+    (Case::Root, Told::Cost(-4, 1)),
+    (Case::Child(true), Told::Cost(-4, 1)),
+    (Case::Leaf(true, false), Told::Cost(-3, 1)),
+    (Case::Child(false), Told::Cost(-2, 1)),
+    (Case::Leaf(true, true), Told::Never),
+    (Case::Equated, Told::Cost(1, 3)),
+    (Case::Bare, Told::Cost(-5, 1)),
+    (Case::Barred, Told::Never),
+];
 
 #[test]
 fn answers_at_nodes(rt: HostRuntime) -> Result<(), Fail> {
     let alloc = rt.alloc();
-    assert_eq!(rt; at_root(alloc)?, cost(-4, 1)?);
-    assert_eq!(rt; at_child(alloc, true)?, cost(-4, 1)?);
-    assert_eq!(rt; at_leaf(alloc, true, false)?, cost(-3, 1)?);
-    assert_eq!(rt; at_child(alloc, false)?, cost(-2, 1)?);
-    assert_eq!(rt; at_leaf(alloc, true, true)?, Told::Never);
-    assert_eq!(rt; root_number(alloc, 1)?, Some(part(2, 3)?));
-    assert_eq!(rt; root_number(alloc, 2)?, Some(part(1, 1)?));
-    assert_eq!(rt; equated_tells(alloc)?, cost(1, 3)?);
-    assert_eq!(rt; bare_tells(alloc)?, cost(-5, 1)?);
-    assert_eq!(rt; barred_tells(alloc)?, Told::Never);
+    for k in 0..ROWS.len() {
+        let (case, told) = ROWS[k];
+        assert_eq!(rt; tells(alloc, case)?, told);
+    }
+    assert_eq!(rt; root_number(alloc, 1)?, Some((2, 3)));
+    assert_eq!(rt; root_number(alloc, 2)?, Some((1, 1)));
     Ok(())
 }
 
-#[test]
-fn children_go_on(rt: HostRuntime) -> Result<(), Fail> {
-    let alloc = rt.alloc();
-    let low = go_on(alloc, false)?;
-    assert_eq!(rt; low.child, cost(-2, 1)?);
-    assert_eq!(rt; low.path, pivots(alloc, &[(1, 2), (0, 3), (1, 1)])?);
-    assert_eq!(rt;
-        low.longer,
-        pivots(alloc, &[(1, 2), (0, 3), (1, 1), (1, 3)])?
-    );
-    let high = go_on(alloc, true)?;
-    assert_eq!(rt; high.child, cost(-4, 1)?);
-    assert_eq!(rt;
-        high.longer,
-        pivots(alloc, &[(1, 2), (0, 3), (1, 1), (1, 1)])?
-    );
-    Ok(())
-}
+const ROOT: [(u32, u32); 3] = [(1, 2), (0, 3), (1, 1)];
+
+const LOW: [(u32, u32); 4] = [(1, 2), (0, 3), (1, 1), (1, 3)];
+
+const HIGH: [(u32, u32); 4] = [(1, 2), (0, 3), (1, 1), (1, 1)];
 
 #[test]
-fn children_begin_anew(rt: HostRuntime) -> Result<(), Fail> {
+fn paths_at_nodes(rt: HostRuntime) -> Result<(), Fail> {
     let alloc = rt.alloc();
-    assert_eq!(rt;
-        afresh(alloc, false)?,
-        pivots(alloc, &[(1, 2), (0, 3), (1, 3)])?
-    );
-    assert_eq!(rt; afresh(alloc, true)?, pivots(alloc, &[(1, 2), (0, 3)])?);
-    Ok(())
-}
-
-#[test]
-fn a_path_is_replayed(rt: HostRuntime) -> Result<(), Fail> {
-    let alloc = rt.alloc();
+    assert_eq!(rt; goes(alloc, false, &ROOT, &LOW)?, true);
+    assert_eq!(rt; goes(alloc, true, &ROOT, &HIGH)?, true);
+    assert_eq!(rt; begins(alloc, false, &[(1, 2), (0, 3), (1, 3)])?, true);
+    assert_eq!(rt; begins(alloc, true, &[(1, 2), (0, 3)])?, true);
     let shown = stuck_at(alloc)?.ok_or("the decaying state was not stuck")?;
     assert_eq!(rt; is_found(alloc, &shown)?, true);
     Ok(())
