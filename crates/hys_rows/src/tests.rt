@@ -5,16 +5,18 @@ ghost use Rattle.hys_formula.specs.Formulas.{tree_of, connectives};
 ghost use Rattle.hys_prog.specs.Programs.{body_connectives};
 ghost use Rattle.hys_logic.specs.Meanings.{HaveColumns};
 ghost use Rattle.hys_logic.specs.Uses.{IsApart as IsApartFrom};
+ghost use Rattle.hys_rows.specs.Items.{FitsNames};
 ghost use Rattle.hys_rows.specs.Adding.{IsPlacedBody, IsPlaced, IsBoxed, IsApart};
 ghost use Rattle.hys_rows.specs.Moved.{moved as moved_form};
 
-use crate::RowFault;
 use crate::added::Added;
 use crate::body::add_body;
+use crate::{RowFault, add_item, fresh_in};
+use hys_ast::Place;
 use hys_formula::{Connective, Formula};
 use hys_frac::{Frac, List};
 use hys_lin::{Affine, Interval, Row, Term};
-use hys_prog::Body;
+use hys_prog::{Body, ProgItem};
 use std::alloc::{AllocError, Global};
 
 // The number of connectives, if it is small and the names have columns below 10, none of them 9.
@@ -152,9 +154,11 @@ fn body_shown(
     requires placed { IsPlacedBody boxes.now columns.now 10 own body.now }
     requires few { body_connectives body.now ≤ 5000 }
 {
+    let count = fresh_in(alloc, body, columns)?;
     let mut rows = Vec::new(alloc);
     match add_body(alloc, body, own, columns, boxes, 10, &mut rows) {
-        Ok(added) => shown(alloc, &rows, &added),
+        Ok(added) if added.fresh == count => shown(alloc, &rows, &added),
+        Ok(_) => format!(in alloc; "miscounted"),
         Err(RowFault::Lost(_)) => format!(in alloc; "lost"),
         Err(RowFault::Memory) => format!(in alloc; "memory"),
     }
@@ -240,6 +244,36 @@ fn formula_shown(
             body_shown(alloc, &body, 9, columns, boxes)
         }
         None => Ok(String::new(alloc)),
+    }
+}
+
+// The demand that -1 be at most 0, which has no name.
+fn demand(alloc: Global) -> Result<ProgItem, AllocError>
+    ensures fits { IfOk result (λ t. FitsNames [] [] 0 t) }
+    ensures count { IfOk result (λ t. body_connectives t.body ≡ 0) }
+{
+    Ok(ProgItem {
+        name: None,
+        place: Place {
+            byte: 0,
+            line: 1,
+            col: 1,
+        },
+        body: Body::MustMost(Affine {
+            terms: List::of(Vec::new(alloc)),
+            constant: Frac::whole(1).neg(),
+        }),
+    })
+}
+
+// What is added for that demand where there are no names.
+fn demand_shown(alloc: Global) -> Result<String, AllocError> {
+    let item = demand(alloc)?;
+    let mut rows = Vec::new(alloc);
+    match add_item(alloc, &item, &[], &[], 0, &mut rows) {
+        Ok(added) => shown(alloc, &rows, &added),
+        Err(RowFault::Lost(_)) => format!(in alloc; "lost"),
+        Err(RowFault::Memory) => format!(in alloc; "memory"),
     }
 }
 
@@ -346,4 +380,6 @@ fn each_kind_of_item(rt: HostRuntime) {
         let got = kind_shown(alloc, kind, text).expect(&rt, "memory");
         assert_eq!(rt; got.as_str(), want, "of {kind} {text}");
     }
+    let alone = demand_shown(alloc).expect(&rt, "memory");
+    assert_eq!(rt; alone.as_str(), "<= 1; 0 fresh, + 0");
 }
