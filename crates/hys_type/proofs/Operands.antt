@@ -1,12 +1,9 @@
 -- Nodes and their operands.
-use Rattle.std.proofs.Common.{◌≡◌, ℕ, ◌+◌, ◌<◌, List, [], ◌∷◌, ◌++◌, Some, None, Bool, true, false, map, take, length, get_or, refl, sym, ◌∙◌, ap, subst, ◌≢◌, Err, suc, zero, cond, arith, add-one}
+use Rattle.std.proofs.Common.{◌≡◌, ℕ, ◌+◌, ◌<◌, List, [], ◌∷◌, ◌++◌, Some, None, Bool, true, false, map, take, length, get_or, refl, sym, ◌∙◌, ap, ◌≢◌, suc, zero, cond, arith, add-one}
 use Rattle.std.specs.Str.{bytes_eq}
 use Rattle.hys_meaning.specs.Names.{look}
 use Rattle.hys_number.specs.Ops.{fits, whole}
 use Rattle.hys_lin.specs.declared.lost.Lost.{Lost}
-use Rattle.hys_lin.specs.declared.lost.LinFault.{LinFault}
-use Rattle.hys_lin.specs.declared.lost.LinFault.TheVariants.{Lost as Shown}
-use Rattle.hys_lin.specs.Scaled.{AnswersLost}
 use Rattle.hys_number.specs.Number.{Number, make}
 use Rattle.hys_number.specs.Gcd.{gcd}
 use Rattle.hys_meaning.specs.Folding.{is_zero}
