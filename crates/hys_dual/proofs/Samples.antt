@@ -1,17 +1,14 @@
 -- The worked problems are problems.
-use Rattle.std.proofs.Common.{◌≡◌, ℕ, ◌+◌, ◌*◌, ◌<◌, ◌≤◌, refl, ap, arith, pos, negsuc, List, [], ◌∷◌, length, All}
-use Rattle.std.specs.List.{AllByRecursion}
+use Rattle.std.proofs.Common.{◌≡◌, ℕ, ◌<◌, refl, ap, arith, pos, negsuc, []}
 use Rattle.std.proofs.lemmas.List.Elements.{All-from_recursion}
 use Rattle.hys_number.specs.Number.{Number, make}
-use Rattle.hys_number.specs.Ops.{◌+ₙ◌, ◌*ₙ◌, ◌-ₙ◌, ◌/ₙ◌, ◌≤ₙ◌, neg, inverse, whole}
+use Rattle.hys_number.specs.Ops.{◌+ₙ◌, ◌*ₙ◌, ◌≤ₙ◌, neg, inverse, whole}
 use Rattle.hys_number.specs.Gcd.{gcd}
 use Rattle.hys_lin.specs.Over.{AreTermsOver}
 use Rattle.hys_lin.specs.Problem.{IsProblem, IsBranch}
 use Rattle.hys_lin.specs.Sums.{IsInterval}
-use Rattle.hys_lin.specs.declared.form.Interval.{Interval}
 use Rattle.hys_lin.specs.declared.form.Row.{Row}
-use Rattle.hys_relax.specs.Node.{unit_box}
-use Rattle.hys_simplex.specs.Worked.{box, decay, step_row, wide, signed, decaying, equated}
+use Rattle.hys_simplex.specs.Worked.{decay, step_row, decaying, equated}
 use Rattle.hys_simplex.proofs.Decide.{le_yes}
 use Rattle.hys_dual.specs.Cases.{bare, barred}
 

@@ -1,4 +1,4 @@
-use Rattle.std.proofs.Common.{◌≡◌, subst, sym}
+use Rattle.std.proofs.Common.{subst, sym}
 use Rattle.hys_lin.specs.Problem.{IsProblem}
 use Rattle.hys_relax.proofs.Examples.{worked_problem}
 use Rattle.hys_dual.proofs.examples.plan.Goals as goal

@@ -1,4 +1,4 @@
-use Rattle.std.proofs.Common.{◌≡◌, subst, sym}
+use Rattle.std.proofs.Common.{subst, sym}
 use Rattle.hys_lin.specs.Problem.{IsProblem}
 use Rattle.hys_dual.proofs.Samples.{equated_is}
 use Rattle.hys_dual.proofs.tests.equated_tells.Goals as goal

@@ -1,4 +1,4 @@
-use Rattle.std.proofs.Common.{◌≤◌, [], arith}
+use Rattle.std.proofs.Common.{[], arith}
 use Rattle.hys_dual.proofs.Lawful.{warm_below}
 use Rattle.hys_dual.proofs.tests.go_on.Goals as goal
 

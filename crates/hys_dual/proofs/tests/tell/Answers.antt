@@ -1,4 +1,4 @@
-use Rattle.std.proofs.Common.{◌≡◌, ◌∙◌, sym, ap, length}
+use Rattle.std.proofs.Common.{◌∙◌, sym, ap, length}
 use Rattle.hys_dual.proofs.Finishing.{cost_below}
 use Rattle.hys_dual.proofs.tests.tell.Goals as goal
 
