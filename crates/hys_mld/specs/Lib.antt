@@ -1,0 +1,9 @@
+pub mod Placing
+pub mod Fresh
+pub mod Numbers
+pub mod Answers
+pub mod Stated
+pub mod Columns
+pub mod Forms
+pub mod Lines
+pub mod Assembled
