@@ -48,7 +48,7 @@ guards_named ns w k [] [] h = tt
 guards_named ns w k [] (g ∷ gs) h = absurd h
 guards_named ns w k (c ∷ cs) [] h = absurd h
 guards_named ns w k (c ∷ cs) (g ∷ gs) h = (
-  record { text = refl; role = refl; kind = refl; place = h.0.0; low = λ q. absurd (cc); high = λ q. absurd (cc); value = λ q. absurd (cc) },
+  record { text = refl; role = refl; kind = refl; place = h.0.0; low = λ q. absurd (cc); high = λ q. absurd (cc); usual = λ q. refl; value = λ q. absurd (cc); no_value = λ q. refl },
   guards_named ns w (suc k) cs gs h.1,
 )
 

@@ -20,6 +20,7 @@ use Rattle.hys_type.specs.declared.constant.Constant.{Constant}
 use Rattle.hys_type.specs.declared.constant.Constant.TheVariants as constant
 use Rattle.hys_type.specs.declared.fault.TypeFault.{TypeFault}
 use Rattle.hys_type.specs.declared.fault.TypeFault.TheVariants as fault
+use Rattle.hys_type.proofs.Tops.{operator_at}
 use Rattle.hys_type.proofs.Firsts.{fault_after, fault_before}
 
 -- ---- names
@@ -65,51 +66,15 @@ same_checks : (op : BinaryOp) (p : Place) (ks : List Known) (a b : Tree) (l r : 
     first_fault (operator_checks op (constant_sort l) (constant_sort r) (constant_number l) (constant_number r) p)
     ≡ first_fault (operator_checks op (known_sort ks a) (known_sort ks b) (value (known_values ks) a) (value (known_values ks) b) p)
 same_checks op p ks a b (constant.Real m) (constant.Real n) h k = rw (h.0, k.0, sym h.1, sym k.1) refl
-same_checks op p ks a b (constant.Real m) (constant.Bool n) h k = rw (h.0, k.0) (mixed op)
-  where
-    mixed : (op : BinaryOp) → first_fault (operator_checks op Real Bool' m (whole 0) p) ≡ first_fault (operator_checks op Real Bool' (value (known_values ks) a) (value (known_values ks) b) p)
-    mixed binary.Add = refl
-    mixed binary.Sub = refl
-    mixed binary.Mul = refl
-    mixed binary.Div = refl
-    mixed binary.And = refl
-    mixed binary.Or = refl
-    mixed binary.Iff = refl
-    mixed binary.Then = refl
-    mixed binary.From = refl
-    mixed binary.Most = refl
-    mixed binary.Least = refl
-    mixed binary.Equal = refl
-same_checks op p ks a b (constant.Bool m) (constant.Real n) h k = rw (h.0, k.0) (mixed op)
-  where
-    mixed : (op : BinaryOp) → first_fault (operator_checks op Bool' Real (whole 0) n p) ≡ first_fault (operator_checks op Bool' Real (value (known_values ks) a) (value (known_values ks) b) p)
-    mixed binary.Add = refl
-    mixed binary.Sub = refl
-    mixed binary.Mul = refl
-    mixed binary.Div = refl
-    mixed binary.And = refl
-    mixed binary.Or = refl
-    mixed binary.Iff = refl
-    mixed binary.Then = refl
-    mixed binary.From = refl
-    mixed binary.Most = refl
-    mixed binary.Least = refl
-    mixed binary.Equal = refl
-same_checks op p ks a b (constant.Bool m) (constant.Bool n) h k = rw (h.0, k.0) (both op)
-  where
-    both : (op : BinaryOp) → first_fault (operator_checks op Bool' Bool' (whole 0) (whole 0) p) ≡ first_fault (operator_checks op Bool' Bool' (value (known_values ks) a) (value (known_values ks) b) p)
-    both binary.Add = refl
-    both binary.Sub = refl
-    both binary.Mul = refl
-    both binary.Div = refl
-    both binary.And = refl
-    both binary.Or = refl
-    both binary.Iff = refl
-    both binary.Then = refl
-    both binary.From = refl
-    both binary.Most = refl
-    both binary.Least = refl
-    both binary.Equal = refl
+same_checks op p ks a b (constant.Real m) (constant.Bool n) h k = rw (h.0, k.0) (operator_at (λ (o : BinaryOp).
+    first_fault (operator_checks o Real Bool' m (whole 0) p) ≡ first_fault (operator_checks o Real Bool' (value (known_values ks) a) (value (known_values ks) b) p))
+    refl refl refl refl refl refl refl refl refl refl refl refl op)
+same_checks op p ks a b (constant.Bool m) (constant.Real n) h k = rw (h.0, k.0) (operator_at (λ (o : BinaryOp).
+    first_fault (operator_checks o Bool' Real (whole 0) n p) ≡ first_fault (operator_checks o Bool' Real (value (known_values ks) a) (value (known_values ks) b) p))
+    refl refl refl refl refl refl refl refl refl refl refl refl op)
+same_checks op p ks a b (constant.Bool m) (constant.Bool n) h k = rw (h.0, k.0) (operator_at (λ (o : BinaryOp).
+    first_fault (operator_checks o Bool' Bool' (whole 0) (whole 0) p) ≡ first_fault (operator_checks o Bool' Bool' (value (known_values ks) a) (value (known_values ks) b) p))
+    refl refl refl refl refl refl refl refl refl refl refl refl op)
 
 pub binary_node : (ks : List Known) (a b : Tree) (op : BinaryOp) (p : Place) (l r : Constant) (x : Option TypeFault) →
     None ≡ first_fault (constant_checks ks a) → IsWorth ks a l → None ≡ first_fault (constant_checks ks b) → IsWorth ks b r →

@@ -85,3 +85,9 @@ pub mod GuardPlaces
 pub mod TypingRules
 pub mod RulesKept
 pub mod Zeros
+pub mod Tops
+pub mod OneForm
+pub mod OneTranslation
+pub mod SameValues
+pub mod OneOrOther
+pub mod RichTranslation

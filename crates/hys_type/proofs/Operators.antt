@@ -33,6 +33,7 @@ use Rattle.hys_type.specs.declared.node.Node.{Node}
 use Rattle.hys_type.specs.declared.node.Node.TheVariants as node
 use Rattle.hys_type.specs.declared.fault.TypeFault.{TypeFault}
 use Rattle.hys_type.specs.declared.fault.TypeFault.TheVariants as fault
+use Rattle.hys_type.proofs.Tops.{operator_at}
 use Rattle.hys_type.proofs.Firsts.{fault_after, fault_before}
 use Rattle.hys_type.proofs.Zips.{each_name, spread_over}
 
@@ -206,21 +207,9 @@ same_checks op p ns a b (node.Real d) (node.Real e) h k = rw (h.0, k.0) (real_sa
 same_checks op p ns a b (node.Real d) node.Bool h k = rw (h.0, k, unlike op Real Bool' refl refl) refl
 same_checks op p ns a b (node.Real d) node.Neither h k = rw (h.0, k, unlike op Real Neither refl refl) refl
 same_checks op p ns a b node.Bool (node.Real e) h k = rw (h, k.0, unlike op Bool' Real refl refl) refl
-same_checks op p ns a b node.Bool node.Bool h k = rw (h, k) (both op)
-  where
-    both : (op : BinaryOp) → first_fault (joined_checks op node.Bool node.Bool p) ≡ first_fault (operator_checks ns op Bool' Bool' (form ns a) (form ns b) p)
-    both binary.Add = refl
-    both binary.Sub = refl
-    both binary.Mul = refl
-    both binary.Div = refl
-    both binary.And = refl
-    both binary.Or = refl
-    both binary.Iff = refl
-    both binary.Then = refl
-    both binary.From = refl
-    both binary.Most = refl
-    both binary.Least = refl
-    both binary.Equal = refl
+same_checks op p ns a b node.Bool node.Bool h k = rw (h, k) (operator_at (λ (o : BinaryOp).
+    first_fault (joined_checks o node.Bool node.Bool p) ≡ first_fault (operator_checks ns o Bool' Bool' (form ns a) (form ns b) p))
+    refl refl refl refl refl refl refl refl refl refl refl refl op)
 same_checks op p ns a b node.Bool node.Neither h k = rw (h, k, unlike op Bool' Neither refl refl) refl
 same_checks op p ns a b node.Neither r h k = rw (h, unlike op Neither (sort ns b) refl refl) refl
 

@@ -34,6 +34,7 @@ use Rattle.hys_prog.specs.declared.program.Body.TheVariants as means
 use Rattle.hys_prog.specs.Steps as program
 use Rattle.hys_type.specs.Checks.{has_top}
 use Rattle.hys_type.specs.Translation.{Setting, IsFormOf, IsFormulaOf, IsBodyOf, guard, choice, logic, linear, next_bool, next_real, out_bool, out_real, must_hold, must_most, must_zero, else_form, difference_form, kind_of}
+use Rattle.hys_type.proofs.Tops.{no_comparison_at, inequality_at}
 use Rattle.hys_type.proofs.Agree.{Agree, texts_of, found_name}
 use Rattle.hys_type.proofs.FormSums.{HasParameters, real_number, guard_value, difference_value, constant_number}
 use Rattle.hys_type.proofs.FormPlaces.{value_places}
@@ -80,24 +81,17 @@ same_tolerance ns tolerance w u (Some e) g h r = same_constant (only_parameters 
 same_tolerance ns tolerance w u None g h r = refl
 
 -- ---- what stands at the top of a MUST item
+itself : {A : Type 0} → A ↔ A
+itself = (λ x. x, λ x. x)
+
 holds_formula : (w : Assignment) (e : Tree) → has_top is_comparison e ≡ false → Holds w e ↔ IsTrue (truth w e)
 holds_formula w (tree.Number text p) h = (λ x. x, λ x. x)
 holds_formula w (tree.Name n p) h = (λ x. x, λ x. x)
 holds_formula w (tree.Truth b p) h = (λ x. x, λ x. x)
 holds_formula w (tree.Cast n p) h = (λ x. x, λ x. x)
 holds_formula w (tree.Unary op a p) h = (λ x. x, λ x. x)
-holds_formula w (tree.Binary binary.Add a b p) h = (λ x. x, λ x. x)
-holds_formula w (tree.Binary binary.Sub a b p) h = (λ x. x, λ x. x)
-holds_formula w (tree.Binary binary.Mul a b p) h = (λ x. x, λ x. x)
-holds_formula w (tree.Binary binary.Div a b p) h = (λ x. x, λ x. x)
-holds_formula w (tree.Binary binary.And a b p) h = (λ x. x, λ x. x)
-holds_formula w (tree.Binary binary.Or a b p) h = (λ x. x, λ x. x)
-holds_formula w (tree.Binary binary.Iff a b p) h = (λ x. x, λ x. x)
-holds_formula w (tree.Binary binary.Then a b p) h = (λ x. x, λ x. x)
-holds_formula w (tree.Binary binary.From a b p) h = (λ x. x, λ x. x)
-holds_formula w (tree.Binary binary.Most a b p) h = absurd (cc)
-holds_formula w (tree.Binary binary.Least a b p) h = absurd (cc)
-holds_formula w (tree.Binary binary.Equal a b p) h = absurd (cc)
+holds_formula w (tree.Binary op a b p) h =
+    no_comparison_at (λ (o : BinaryOp). Holds w (tree.Binary o a b p) ↔ IsTrue (truth w (tree.Binary o a b p))) itself itself itself itself itself itself itself itself itself op h
 
 holds_most : (w : Assignment) (e : Tree) → has_top is_inequality e ≡ true → Holds w e ↔ (guard_number w e ≤ₙ whole 0)
 holds_most w (tree.Number text p) h = absurd (cc)
@@ -105,18 +99,9 @@ holds_most w (tree.Name n p) h = absurd (cc)
 holds_most w (tree.Truth b p) h = absurd (cc)
 holds_most w (tree.Cast n p) h = absurd (cc)
 holds_most w (tree.Unary op a p) h = absurd (cc)
-holds_most w (tree.Binary binary.Add a b p) h = absurd (cc)
-holds_most w (tree.Binary binary.Sub a b p) h = absurd (cc)
-holds_most w (tree.Binary binary.Mul a b p) h = absurd (cc)
-holds_most w (tree.Binary binary.Div a b p) h = absurd (cc)
-holds_most w (tree.Binary binary.And a b p) h = absurd (cc)
-holds_most w (tree.Binary binary.Or a b p) h = absurd (cc)
-holds_most w (tree.Binary binary.Iff a b p) h = absurd (cc)
-holds_most w (tree.Binary binary.Then a b p) h = absurd (cc)
-holds_most w (tree.Binary binary.From a b p) h = absurd (cc)
-holds_most w (tree.Binary binary.Most a b p) h = most_zero (value w a) (value w b)
-holds_most w (tree.Binary binary.Least a b p) h = most_zero (value w b) (value w a)
-holds_most w (tree.Binary binary.Equal a b p) h = absurd (cc)
+holds_most w (tree.Binary op a b p) h =
+    inequality_at (λ (o : BinaryOp). Holds w (tree.Binary o a b p) ↔ (guard_number w (tree.Binary o a b p) ≤ₙ whole 0))
+    (most_zero (value w a) (value w b)) (most_zero (value w b) (value w a)) op h
 
 -- a formula is no comparison
 no_comparison : (op : BinaryOp) → IsTrue (is_connective op) → IsTrue (is_comparison op) → ⊥
@@ -186,20 +171,20 @@ real_output ns (Some m) w e h t = let s : m.kind ≡ kind.Real = some_kind m.kin
 
 -- ---- bodies
 module _ (c : Setting) (w : Assignment) (v : PlaceAssignment) (a : Agree 0 c.names w v) (d : Differ (texts_of c.names)) (g : HasParameters w c.names) (u : HasParameters c.values c.names) where
-  real_places : (e : Tree) (f : Affine) → IsReal c.names e → IsFormOf c.names (form c.names e) f → value w e ≡ form_value f v
+  pub real_places : (e : Tree) (f : Affine) → IsReal c.names e → IsFormOf c.names (form c.names e) f → value w e ≡ form_value f v
   real_places e f r h = real_number c.names w d g e r ∙ sym (value_places c.names (form c.names e) f w v h a)
 
-  guard_places : (e : Tree) (f : Affine) → IsComparison is_inequality c.names e → IsFormOf c.names (guard_form c.names e) f → guard_number w e ≡ form_value f v
+  pub guard_places : (e : Tree) (f : Affine) → IsComparison is_inequality c.names e → IsFormOf c.names (guard_form c.names e) f → guard_number w e ≡ form_value f v
   guard_places e f r h = guard_value c.names w d g e r ∙ sym (value_places c.names (guard_form c.names e) f w v h a)
 
-  difference_places : (x y : Tree) (f : Affine) → IsReal c.names x → IsReal c.names y → IsFormOf c.names (difference_form c.names x y) f → value w x -ₙ value w y ≡ form_value f v
+  pub difference_places : (x y : Tree) (f : Affine) → IsReal c.names x → IsReal c.names y → IsFormOf c.names (difference_form c.names x y) f → value w x -ₙ value w y ≡ form_value f v
   difference_places x y f r s h = difference_value c.names w d g x y r s ∙ sym (value_places c.names (difference_form c.names x y) f w v h a)
 
-  else_places : (o : Option Tree) (f : Affine) → IsMaybe (IsReal c.names) o → IsFormOf c.names (else_form c.names o) f → else_value w o ≡ form_value f v
+  pub else_places : (o : Option Tree) (f : Affine) → IsMaybe (IsReal c.names) o → IsFormOf c.names (else_form c.names o) f → else_value w o ≡ form_value f v
   else_places (Some e) f r h = real_places e f r h
   else_places None f r h = constant_number c.names (whole 0) w ∙ sym (value_places c.names (else_form c.names None) f w v h a)
 
-  formula_places : (e : Tree) (l : Formula) → IsFormula c.names e → IsFormulaOf c.names e l → truth w e ≡ formula_truth (tree_of l) v
+  pub formula_places : (e : Tree) (l : Formula) → IsFormula c.names e → IsFormulaOf c.names e l → truth w e ≡ formula_truth (tree_of l) v
   formula_places e l r h = sym (truth_places c.names w v a g e l r h)
 
   -- ---- demands and gaps

@@ -25,21 +25,21 @@ use Rattle.hys_prog.specs.declared.program.Body.TheVariants as means
 use Rattle.hys_type.specs.Translation.{Setting, IsBodyOf, choice, linear, next_bool, out_bool, out_real, must_zero, IsTranslation, IsNamedTranslation, IsNameOf, OneByOne, IsFormOf, IsItemOf, setting, guard, logic, next_real, must_most, must_hold}
 use Rattle.hys_type.specs.SmallProgram.{small, small_by, small_program}
 
-two_is_not_zero : ¬ (whole 2 ≡ whole 0)
+pub two_is_not_zero : ¬ (whole 2 ≡ whole 0)
 unfolding whole make gcd
 two_is_not_zero e = let f = ap (λ (x : Number). x.num) e in absurd (cc)
 
-one_is_not_zero : ¬ (whole 1 ≡ whole 0)
+pub one_is_not_zero : ¬ (whole 1 ≡ whole 0)
 unfolding whole make gcd
 one_is_not_zero e = let f = ap (λ (x : Number). x.num) e in absurd (cc)
 
-minus_one_is_not_zero : ¬ (neg (whole 1) ≡ whole 0)
+pub minus_one_is_not_zero : ¬ (neg (whole 1) ≡ whole 0)
 unfolding whole make gcd neg
 minus_one_is_not_zero e = let f = ap (λ (x : Number). x.num) e in absurd (cc)
 
 small_names : (tolerance : Number) → OneByOne (IsNameOf (parameters (small_by (codes "@1")).decls)) (small_by (codes "@1")).decls (small_program tolerance (whole 2)).names
 unfolding literal scan_numeral whole make gcd ◌+ₙ◌ ◌*ₙ◌ neg
-small_names tolerance = (record { text = refl; role = refl; kind = refl; place = refl; low = λ h. refl; high = λ h. refl; value = λ h. absurd (cc) }, (record { text = refl; role = refl; kind = refl; place = refl; low = λ h. absurd (cc); high = λ h. absurd (cc); value = λ h. refl }, (record { text = refl; role = refl; kind = refl; place = refl; low = λ h. absurd (cc); high = λ h. absurd (cc); value = λ h. refl }, (record { text = refl; role = refl; kind = refl; place = refl; low = λ h. absurd (cc); high = λ h. absurd (cc); value = λ h. absurd (cc) }, (record { text = refl; role = refl; kind = refl; place = refl; low = λ h. absurd (cc); high = λ h. absurd (cc); value = λ h. absurd (cc) }, (record { text = refl; role = refl; kind = refl; place = refl; low = λ h. absurd (cc); high = λ h. absurd (cc); value = λ h. absurd (cc) }, tt))))))
+small_names tolerance = (record { text = refl; role = refl; kind = refl; place = refl; low = λ h. refl; high = λ h. refl; usual = λ h. absurd (cc); value = λ h. absurd (cc); no_value = λ h. refl }, (record { text = refl; role = refl; kind = refl; place = refl; low = λ h. absurd (cc); high = λ h. absurd (cc); usual = λ h. refl; value = λ h. refl; no_value = λ h. absurd (cc) }, (record { text = refl; role = refl; kind = refl; place = refl; low = λ h. absurd (cc); high = λ h. absurd (cc); usual = λ h. refl; value = λ h. refl; no_value = λ h. absurd (cc) }, (record { text = refl; role = refl; kind = refl; place = refl; low = λ h. absurd (cc); high = λ h. absurd (cc); usual = λ h. refl; value = λ h. absurd (cc); no_value = λ h. refl }, (record { text = refl; role = refl; kind = refl; place = refl; low = λ h. absurd (cc); high = λ h. absurd (cc); usual = λ h. refl; value = λ h. absurd (cc); no_value = λ h. refl }, (record { text = refl; role = refl; kind = refl; place = refl; low = λ h. absurd (cc); high = λ h. absurd (cc); usual = λ h. refl; value = λ h. absurd (cc); no_value = λ h. refl }, tt))))))
 
 small_items : (tolerance : Number) → OneByOne (IsItemOf (setting tolerance (small_by (codes "@1")))) (small_by (codes "@1")).items (small_program tolerance (whole 2)).items
 unfolding literal scan_numeral whole make gcd ◌+ₙ◌ ◌*ₙ◌ neg is_one

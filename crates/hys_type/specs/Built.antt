@@ -45,7 +45,8 @@ comparisons (tree.Name n p) = []
 comparisons (tree.Truth b p) = []
 comparisons (tree.Cast n p) = []
 comparisons (tree.Unary op a p) = comparisons a
-comparisons (tree.Binary op a b p) = cond (is_inequality op) (tree.Binary op a b p ∷ []) (comparisons a ++ comparisons b)
+comparisons (tree.Binary op a b p) =
+    cond (is_inequality op) (tree.Binary op a b p ∷ []) (comparisons a ++ comparisons b)
 
 -- the formula of an expression whose first unnamed guard is the name at a place
 abbrev pub built : List Name → ℕ → Tree → FormulaTree
@@ -55,7 +56,8 @@ built ns k (tree.Truth b p) = constant b
 built ns k (tree.Cast n p) = constant false
 built ns k (tree.Unary op a p) = signed_by op (built ns k a)
 built ns k (tree.Binary op a b p) =
-    cond (is_inequality op) (named k) (joined_by (connective_of op) (built ns k a) (built ns (k + length (comparisons a)) b))
+    cond (is_inequality op) (named k)
+    (joined_by (connective_of op) (built ns k a) (built ns (k + length (comparisons a)) b))
 
 abbrev pub IsGuardOf : List Name → Tree → Guard → Type 0
 IsGuardOf ns e g = (g.place ≡ place_of e) × IsFormOf ns (guard_form ns e) g.number
@@ -95,10 +97,12 @@ setting_of ns ks tolerance = record { names = ns; values = known_values ks; tole
 pub data IsBuilt (c : Setting) (j : ℕ) (k : Option Kind) (s : said.Body) (b : Body) : Type 0 where
   guard : {e : Tree} {t : Option Tree} {f : Affine} {eps : Number} → s ≡ said.Guard e t → b ≡ means.Guard f eps →
       IsFormOf c.names (guard_form c.names e) f → eps ≡ tolerance_of c.tolerance c.values t → IsBuilt c j k s b
-  choice : {e h : Tree} {o : Option Tree} {l : Formula} {f g : Affine} → s ≡ said.Choice e h o → b ≡ means.Choice l f g →
+  choice : {e h : Tree} {o : Option Tree} {l : Formula} {f g : Affine} →
+      s ≡ said.Choice e h o → b ≡ means.Choice l f g →
       tree_of l ≡ built c.names j e → IsFormOf c.names (form c.names h) f → IsFormOf c.names (else_form c.names o) g →
       IsBuilt c j k s b
-  logic : {e : Tree} {l : Formula} → s ≡ said.Logic e → b ≡ means.Logic l → tree_of l ≡ built c.names j e → IsBuilt c j k s b
+  logic : {e : Tree} {l : Formula} → s ≡ said.Logic e → b ≡ means.Logic l → tree_of l ≡ built c.names j e →
+      IsBuilt c j k s b
   linear : {e : Tree} {f : Affine} → s ≡ said.Linear e → b ≡ means.Linear f → IsFormOf c.names (form c.names e) f →
       IsBuilt c j k s b
   next_bool : {e : Tree} {l : Formula} → s ≡ said.NextBool e → b ≡ means.NextBool l → tree_of l ≡ built c.names j e →

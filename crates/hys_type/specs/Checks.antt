@@ -40,7 +40,8 @@ scoped ns ks = record { names = ns; known = ks }
 -- the left name is declared, suits the section, and no item before defines it
 abbrev pub left_checks : List Name → List Item → Item → List ℕ → List Check
 left_checks ns before i n =
-    check (is_declared (look ns n)) (fault.Unknown i.place) ∷ check (suits i.section (look ns n)) (fault.WrongSection i.place)
+    check (is_declared (look ns n)) (fault.Unknown i.place)
+    ∷ check (suits i.section (look ns n)) (fault.WrongSection i.place)
     ∷ check (not (list_any (λ j. defines n j.name) before)) (fault.DefinedTwice i.place) ∷ []
 
 -- an expression whose top node suits its place
@@ -66,7 +67,10 @@ is_less Greater = false
 
 -- a tolerance is real and constant, and above 0
 abbrev pub tolerance_checks : List Known → Place → Tree → List Check
-tolerance_checks ks p e = constant_of_kind kind.Real ks e ++ check (is_less (number_cmp (whole 0) (value (known_values ks) e))) (fault.Tolerance p (value (known_values ks) e)) ∷ []
+tolerance_checks ks p e =
+    constant_of_kind kind.Real ks e
+    ++ check (is_less (number_cmp (whole 0) (value (known_values ks) e)))
+    (fault.Tolerance p (value (known_values ks) e)) ∷ []
 
 -- an output has its declared kind
 abbrev pub output_checks : List Name → Option Name → Tree → List Check
@@ -83,8 +87,10 @@ left_name ns None = None
 
 -- the expressions of an item in the order of the text
 abbrev pub right_checks : Scope → Option Name → Place → Body → List Check
-right_checks c n p (body.Guard e t) = expression c.names (has_top is_inequality) e ++ if_some (tolerance_checks c.known p) t
-right_checks c n p (body.Choice a b o) = of_kind kind.Bool c.names a ++ (of_kind kind.Real c.names b ++ if_some (of_kind kind.Real c.names) o)
+right_checks c n p (body.Guard e t) =
+    expression c.names (has_top is_inequality) e ++ if_some (tolerance_checks c.known p) t
+right_checks c n p (body.Choice a b o) =
+    of_kind kind.Bool c.names a ++ (of_kind kind.Real c.names b ++ if_some (of_kind kind.Real c.names) o)
 right_checks c n p (body.Logic e) = of_kind kind.Bool c.names e
 right_checks c n p (body.Linear e) = of_kind kind.Real c.names e
 right_checks c n p (body.NextBool e) = of_kind kind.Bool c.names e
@@ -94,11 +100,13 @@ right_checks c n p (body.Must e) = expression c.names (demanded c.names) e
 right_checks c n p body.Nothing = []
 
 abbrev pub item_checks : Scope → List Item → Item → List Check
-item_checks c before i = if_some (left_checks c.names before i) i.name ++ right_checks c (left_name c.names i.name) i.place (body i)
+item_checks c before i =
+    if_some (left_checks c.names before i) i.name ++ right_checks c (left_name c.names i.name) i.place (body i)
 
 -- an AUX, STATE or OUTPUT name is defined by an item
 abbrev pub missing_checks : List Item → Decl → List Check
-missing_checks is d = cond (is_defined d.section) (check (list_any (λ i. defines d.name i.name) is) (fault.Missing d.name) ∷ []) []
+missing_checks is d =
+    cond (is_defined d.section) (check (list_any (λ i. defines d.name i.name) is) (fault.Missing d.name) ∷ []) []
 
 -- ---- the whole
 -- what items may name behind these declarations

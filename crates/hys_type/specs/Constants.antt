@@ -129,7 +129,8 @@ operation binary.Equal x y = []
 
 -- at an operator between operands of these sorts with these numbers
 abbrev pub operator_checks : BinaryOp → Sort → Sort → Number → Number → Place → List Check
-operator_checks op s t x y p = check (takes_constants op s t) (fault.Kind p) ∷ (divisor_checks op y p ++ in_range p (operation op x y))
+operator_checks op s t x y p =
+    check (takes_constants op s t) (fault.Kind p) ∷ (divisor_checks op y p ++ in_range p (operation op x y))
 
 -- the checks of the nodes, operands first, from left to right
 abbrev pub constant_checks : List Known → Tree → List Check
@@ -137,7 +138,8 @@ constant_checks ks (tree.Number text p) = check (fits (literal text)) (fault.Lit
 constant_checks ks (tree.Name n p) = name_checks may_stand (find_known ks n) p
 constant_checks ks (tree.Truth b p) = []
 constant_checks ks (tree.Cast n p) = name_checks may_be_cast (find_known ks n) p
-constant_checks ks (tree.Unary op a p) = constant_checks ks a ++ check (takes_unary op (known_sort ks a)) (fault.Kind p) ∷ []
+constant_checks ks (tree.Unary op a p) =
+    constant_checks ks a ++ check (takes_unary op (known_sort ks a)) (fault.Kind p) ∷ []
 constant_checks ks (tree.Binary op a b p) =
     constant_checks ks a ++ (constant_checks ks b
     ++ operator_checks op (known_sort ks a) (known_sort ks b) (value (known_values ks) a) (value (known_values ks) b) p)

@@ -29,7 +29,9 @@ most_names = 200
 
 -- the name differs from those before, and there aren't too many
 abbrev pub name_checks : List Decl → Decl → List Check
-name_checks before d = check (not (list_any (λ m. bytes_eq d.name m.name) before)) (fault.Twice d.place) ∷ check (nat_lt (length before) most_names) fault.Limit ∷ []
+name_checks before d =
+    check (not (list_any (λ m. bytes_eq d.name m.name) before)) (fault.Twice d.place)
+    ∷ check (nat_lt (length before) most_names) fault.Limit ∷ []
 
 -- ---- expressions
 abbrev pub place_of : Tree → Place
@@ -70,7 +72,8 @@ given_value k w None = None
 
 -- one parameter more, whose value is that under the known ones
 abbrev pub with_parameter : List Known → Decl → List Known
-with_parameter ks d = cond (is_parameter d.section) (ks ++ record { text = d.name; kind = d.kind; value = given_value d.kind (known_values ks) d.value } ∷ []) ks
+with_parameter ks d = cond (is_parameter d.section)
+    (ks ++ record { text = d.name; kind = d.kind; value = given_value d.kind (known_values ks) d.value } ∷ []) ks
 
 abbrev pub with_parameters : List Known → List Decl → List Known
 with_parameters ks [] = ks
@@ -83,7 +86,8 @@ known all ds = with_parameters (others all) ds
 -- ---- values and boxes
 -- a parameter has a value of its kind
 abbrev pub parameter_checks : List Known → Decl → List Check
-parameter_checks ks d = cond (is_parameter d.section) (check (is_given d.value) (fault.NoValue d.place) ∷ if_some (constant_of_kind d.kind ks) d.value) []
+parameter_checks ks d = cond (is_parameter d.section)
+    (check (is_given d.value) (fault.NoValue d.place) ∷ if_some (constant_of_kind d.kind ks) d.value) []
 
 -- a value names parameters that are declared before its own
 abbrev pub value_checks : List Decl → List Decl → Decl → List Check
@@ -101,7 +105,9 @@ ends_checks low high p = check (at_most (number_cmp low high)) (fault.EmptyBound
 -- both ends are real and constant
 abbrev pub bounds_checks : List Known → Tree → Tree → Place → List Check
 bounds_checks ks low high p =
-    constant_of_kind kind.Real ks low ++ (constant_of_kind kind.Real ks high ++ ends_checks (value (known_values ks) low) (value (known_values ks) high) p)
+    constant_of_kind kind.Real ks low
+    ++ (constant_of_kind kind.Real ks high
+    ++ ends_checks (value (known_values ks) low) (value (known_values ks) high) p)
 
 abbrev pub given_bounds_checks : List Known → Option Tree → Option Tree → Place → List Check
 given_bounds_checks ks (Some low) (Some high) p = bounds_checks ks low high p

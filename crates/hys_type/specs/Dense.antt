@@ -21,7 +21,8 @@ abbrev pub folded_by : Op → Dense → Dense → List Lost
 folded_by o f g = zipped (between o) f.factors g.factors ++ between o f.constant g.constant ∷ []
 
 abbrev pub folded_form : Op → Dense → Dense → Dense
-folded_form o f g = record { factors = zipped (result_of o) f.factors g.factors; constant = result_of o f.constant g.constant }
+folded_form o f g =
+    record { factors = zipped (result_of o) f.factors g.factors; constant = result_of o f.constant g.constant }
 
 abbrev pub spread : Dense → Dense
 spread f = record { factors = map (λ a. f.constant) f.factors; constant = f.constant }

@@ -11,6 +11,9 @@ pub mod Operands
 pub mod Examples
 pub mod Translation
 pub mod Views
+pub mod ProgramTrees
+pub mod ItemValues
+pub mod RichProgram
 pub mod Rules
 pub mod Declaring
 pub mod SameMeaning
@@ -22,3 +25,4 @@ pub mod TwoFaults
 pub mod Written
 pub mod DeclarationKeeping
 pub mod Added
+pub mod Scopes

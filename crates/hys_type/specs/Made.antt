@@ -6,15 +6,16 @@ use Rattle.hys_type.specs.Declarations.{box_of}
 use Rattle.hys_type.specs.Translation.{role_in, IsNameOf, OneByOne}
 use Rattle.hys_type.specs.declared.constant.Known.{Known}
 use Rattle.hys_type.specs.declared.scope.Declared.{Declared}
-use Rattle.std.specs.Prelude.{◌≡◌, List, ◌++◌}
+use Rattle.std.specs.Prelude.{◌≡◌, List, ◌++◌, cond}
+use Rattle.hys_number.specs.Ops.{whole}
 use Rattle.hys_meaning.specs.Values.{Assignment}
-use Rattle.hys_meaning.specs.Names.{parameters}
+use Rattle.hys_meaning.specs.Names.{parameters, is_parameter}
 
 -- as items know it, with the value of a known parameter, or 0
 abbrev pub declared : List Known → Decl → Declared
 declared ks d = record { text = d.name; section = d.section; kind = d.kind; value = known_values ks d.name }
 
--- in the program, with its box and its value
+-- in the program, with its box and the value of a parameter
 abbrev pub program_name : List Known → Decl → ProgName
 program_name ks d = record {
   text = d.name;
@@ -22,7 +23,7 @@ program_name ks d = record {
   kind = d.kind;
   place = d.place;
   bounds = box_of ks d;
-  value = known_values ks d.name;
+  value = cond (is_parameter d.section) (known_values ks d.name) (whole 0);
 }
 
 -- the names of the declarations come first, in their order

@@ -64,7 +64,8 @@ takes_binary binary.Equal a b = is_real a && is_real b
 -- in a product one side is constant, a divisor is constant, and then it isn't 0
 abbrev pub linear_checks : List Name → BinaryOp → Form → Form → Place → List Check
 linear_checks ns binary.Mul f g p = check (cond (is_constant ns f) true (is_constant ns g)) (fault.NotLinear p) ∷ []
-linear_checks ns binary.Div f g p = check (is_constant ns g) (fault.NotLinear p) ∷ check (not (is_zero g.constant)) (fault.ZeroDivisor p) ∷ []
+linear_checks ns binary.Div f g p =
+    check (is_constant ns g) (fault.NotLinear p) ∷ check (not (is_zero g.constant)) (fault.ZeroDivisor p) ∷ []
 linear_checks ns binary.Add f g p = []
 linear_checks ns binary.Sub f g p = []
 linear_checks ns binary.And f g p = []
@@ -79,7 +80,8 @@ linear_checks ns binary.Equal f g p = []
 -- at an operator between operands of these sorts with these forms: the numbers that the node is folded to fit, that of
 -- a comparison being its guard number
 abbrev pub operator_checks : List Name → BinaryOp → Sort → Sort → Form → Form → Place → List Check
-operator_checks ns op s t f g p = check (takes_binary op s t) (fault.Kind p) ∷ (linear_checks ns op f g p ++ in_range p (folding ns op f g))
+operator_checks ns op s t f g p =
+    check (takes_binary op s t) (fault.Kind p) ∷ (linear_checks ns op f g p ++ in_range p (folding ns op f g))
 
 -- the checks of the nodes, operands first, from left to right
 abbrev pub node_checks : List Name → Tree → List Check
@@ -88,4 +90,5 @@ node_checks ns (tree.Name n p) = name_checks may_stand (look ns n) p
 node_checks ns (tree.Truth b p) = []
 node_checks ns (tree.Cast n p) = name_checks may_be_cast (look ns n) p
 node_checks ns (tree.Unary op a p) = node_checks ns a ++ check (takes_unary op (sort ns a)) (fault.Kind p) ∷ []
-node_checks ns (tree.Binary op a b p) = node_checks ns a ++ (node_checks ns b ++ operator_checks ns op (sort ns a) (sort ns b) (form ns a) (form ns b) p)
+node_checks ns (tree.Binary op a b p) = node_checks ns a
+    ++ (node_checks ns b ++ operator_checks ns op (sort ns a) (sort ns b) (form ns a) (form ns b) p)

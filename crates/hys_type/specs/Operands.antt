@@ -68,7 +68,8 @@ has_none d = list_all is_zero d.factors
 
 abbrev pub linear : BinaryOp → Dense → Dense → Place → List Check
 linear binary.Mul d e p = check (cond (has_none d) true (has_none e)) (fault.NotLinear p) ∷ []
-linear binary.Div d e p = check (has_none e) (fault.NotLinear p) ∷ check (not (is_zero e.constant)) (fault.ZeroDivisor p) ∷ []
+linear binary.Div d e p =
+    check (has_none e) (fault.NotLinear p) ∷ check (not (is_zero e.constant)) (fault.ZeroDivisor p) ∷ []
 linear binary.Add d e p = []
 linear binary.Sub d e p = []
 linear binary.And d e p = []
@@ -104,7 +105,8 @@ operations binary.Least d e = folded_by operation.Sub e d
 operations binary.Equal d e = folded_by operation.Sub d e
 
 abbrev pub real_checks : BinaryOp → Dense → Dense → Place → List Check
-real_checks op d e p = check (takes_binary op Real Real) (fault.Kind p) ∷ (linear op d e p ++ in_range p (operations op d e))
+real_checks op d e p =
+    check (takes_binary op Real Real) (fault.Kind p) ∷ (linear op d e p ++ in_range p (operations op d e))
 
 abbrev pub combined_node : BinaryOp → Dense → Dense → Node
 combined_node binary.Add d e = node.Real (folded_form operation.Add d e)

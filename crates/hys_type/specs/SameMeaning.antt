@@ -1,10 +1,11 @@
--- That a source and a program have the same steps.
-use Rattle.std.specs.Prelude.{◌≡◌, ℕ, List, map, ◌↔◌}
+-- That a source and a program have the same steps, and that their items say the same.
+use Rattle.std.specs.Prelude.{◌≡◌, ℕ, List, map, ◌↔◌, IsTrue}
+use Rattle.std.specs.List.{AllByRecursion}
 use Rattle.hys_number.specs.Number.{Number}
 use Rattle.hys_lin.specs.Sums.{Assignment as PlaceAssignment}
 use Rattle.hys_ast.specs.Tree.{Source}
 use Rattle.hys_meaning.specs.Values.{Assignment}
-use Rattle.hys_meaning.specs.Names.{names}
+use Rattle.hys_meaning.specs.Names.{Name, names, is_parameter}
 use Rattle.hys_meaning.specs.Typed.{DeclaredOnce, Typed}
 use Rattle.hys_meaning.specs.Unfolded.{unfolded}
 use Rattle.hys_meaning.specs.Circular.{Circular}
@@ -12,7 +13,8 @@ use Rattle.hys_meaning.specs.Steps as source
 use Rattle.hys_prog.specs.declared.program.Program.{Program}
 use Rattle.hys_prog.specs.Orders.{Circular as IsCircular}
 use Rattle.hys_prog.specs.Steps as program
-use Rattle.hys_type.specs.Translation.{IsTranslation, place_in}
+use Rattle.hys_type.specs.Translation.{IsTranslation, OneByOne, place_in}
+use Rattle.hys_type.specs.ItemValues.{SayTheSame}
 use Rattle.hys_type.specs.Views.{by_places, by_texts}
 
 -- the program is the translation of a typed source in which no name is declared twice
@@ -48,3 +50,19 @@ CirclesByPlaces s p = (ns : List (List ℕ)) → Circular s ns → IsCircular p 
 abbrev pub CirclesByTexts : Source → Program → Type 0
 CirclesByTexts s p = (js : List ℕ) → IsCircular p js →
     (ns : List (List ℕ)) × (map (place_in (names s)) ns ≡ js) × Circular s ns
+
+-- ---- single items
+-- the assignment has the values of the parameters
+abbrev pub HasParameters : Assignment → List Name → Type 0
+HasParameters w ns = AllByRecursion (λ n. IsTrue (is_parameter n.section) → w n.text ≡ n.value) ns
+
+-- Where an assignment has the parameters' values, each item of the program says by places what the item of the source
+-- says by texts: the same number or truth, and a guard has its own tolerance, or else the one for all.
+abbrev pub ValuesByPlaces : Number → Source → Program → Type 0
+ValuesByPlaces tolerance s p = (w : Assignment) → HasParameters w (names s) →
+    OneByOne (SayTheSame (names s) tolerance w (by_places (names s) w)) s.items p.items
+
+-- the same for an assignment to places
+abbrev pub ValuesByTexts : Number → Source → Program → Type 0
+ValuesByTexts tolerance s p = (v : PlaceAssignment) → HasParameters (by_texts (names s) v) (names s) →
+    OneByOne (SayTheSame (names s) tolerance (by_texts (names s) v) v) s.items p.items

@@ -41,6 +41,7 @@ use Rattle.hys_prog.specs.declared.program.Name.{Name as ProgName}
 use Rattle.hys_prog.specs.declared.program.ProgItem.{ProgItem}
 use Rattle.hys_prog.specs.declared.program.Program.{Program}
 use Rattle.hys_type.specs.Checks.{has_top}
+use Rattle.hys_type.specs.Declarations.{usual_box}
 
 -- ---- names
 -- the place of the first declared name with the text; their number where none has it
@@ -68,7 +69,8 @@ role_in section.Continuous = role.Aux
 role_in section.OutputItem = role.Aux
 role_in section.Must = role.Aux
 
--- the name of a declaration, by the values of the parameters
+-- The name of a declaration, by the values of the parameters. A name that is neither state nor input has the usual box
+-- of its kind, and one that is no parameter has the value 0.
 pub record IsNameOf (w : Assignment) (d : Decl) (k : ProgName) : Type 0 where
   pub text : k.text ≡ d.name
   pub role : k.role ≡ role_in d.section
@@ -76,7 +78,9 @@ pub record IsNameOf (w : Assignment) (d : Decl) (k : ProgName) : Type 0 where
   pub place : k.place ≡ d.place
   pub low : IsTrue (is_given d.section) → k.bounds.low ≡ (name_of w d).low
   pub high : IsTrue (is_given d.section) → k.bounds.high ≡ (name_of w d).high
+  pub usual : is_given d.section ≡ false → k.bounds ≡ usual_box d.kind
   pub value : IsTrue (is_parameter d.section) → k.value ≡ w d.name
+  pub no_value : is_parameter d.section ≡ false → k.value ≡ whole 0
 
 -- one by one, in order
 abbrev pub OneByOne : {A B : Type 0} → (A → B → Type 0) → List A → List B → Type 0
@@ -167,7 +171,8 @@ pub record Setting : Type 0 where
 pub data IsBodyOf (c : Setting) (k : Option Kind) (s : said.Body) (b : Body) : Type 0 where
   guard : {e : Tree} {t : Option Tree} {f : Affine} {eps : Number} → s ≡ said.Guard e t → b ≡ means.Guard f eps →
       IsFormOf c.names (guard_form c.names e) f → eps ≡ tolerance_of c.tolerance c.values t → IsBodyOf c k s b
-  choice : {e h : Tree} {o : Option Tree} {l : Formula} {f g : Affine} → s ≡ said.Choice e h o → b ≡ means.Choice l f g →
+  choice : {e h : Tree} {o : Option Tree} {l : Formula} {f g : Affine} →
+      s ≡ said.Choice e h o → b ≡ means.Choice l f g →
       IsFormulaOf c.names e l → IsFormOf c.names (form c.names h) f → IsFormOf c.names (else_form c.names o) g →
       IsBodyOf c k s b
   logic : {e : Tree} {l : Formula} → s ≡ said.Logic e → b ≡ means.Logic l → IsFormulaOf c.names e l → IsBodyOf c k s b

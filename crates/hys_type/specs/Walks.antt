@@ -1,4 +1,5 @@
--- The checks of the elements of a list, one after the other, where those of an element may look at the elements before it.
+-- The checks of the elements of a list, one after the other, where those of an element may look at the elements before
+-- it.
 use Rattle.std.specs.Prelude.{List, [], ◌∷◌, ◌++◌}
 use Rattle.hys_type.specs.Faults.{Check}
 

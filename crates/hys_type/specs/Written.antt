@@ -44,7 +44,8 @@ Compare ms gs = AllByRecursion (λ g. IsComparison is_inequality ms g.comparison
 -- a parameter is known with its value, and any other name at most without one
 abbrev pub KnownAs : Option Known → Option Name → Type 0
 KnownAs (Some x) (Some m) =
-    (x.kind ≡ m.kind) × (has_number x.value ≡ true) × (number_or_zero x.value ≡ m.value) × (is_parameter m.section ≡ true)
+    (x.kind ≡ m.kind) × (has_number x.value ≡ true)
+    × (number_or_zero x.value ≡ m.value) × (is_parameter m.section ≡ true)
 KnownAs (Some x) None = has_number x.value ≡ false
 KnownAs None (Some m) = ⊥
 KnownAs None None = Unit {0}
@@ -60,7 +61,8 @@ AreAmong ps ns = (n : List ℕ) (m : Name) → look ps n ≡ Some m → look ns 
 -- a value stands at parameters alone, and bounds at real states and inputs
 abbrev pub IsReadDecl : Decl → Type 0
 IsReadDecl d =
-    IsNoGuard d.name × (is_parameter d.section ≡ false → d.value ≡ None) × (has_box d ≡ false → (d.low ≡ None) × (d.high ≡ None))
+    IsNoGuard d.name × (is_parameter d.section ≡ false → d.value ≡ None)
+    × (has_box d ≡ false → (d.low ≡ None) × (d.high ≡ None))
 
 -- the right side is one that the section has
 abbrev pub HasRight : Body → Type 0

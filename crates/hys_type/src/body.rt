@@ -3,16 +3,16 @@
 ghost use Rattle.std.specs.Prelude.{◌≡◌, ◌+◌, ℕ, [], map, length, true, Some, IfOk};
 ghost use Rattle.hys_ast.specs.Seen.{tree_of, maybe_tree_of, item_of};
 ghost use Rattle.hys_ast.specs.Tree as tree;
-ghost use Rattle.hys_meaning.specs.Bodies.{body, body_in};
+ghost use Rattle.hys_meaning.specs.Bodies.{body};
 ghost use Rattle.hys_meaning.specs.Bodies as said;
-ghost use Rattle.hys_meaning.specs.Forms.{guard_form};
 ghost use Rattle.hys_meaning.specs.Unfolded.{is_inequality};
 ghost use Rattle.hys_type.specs.Constants.{HasLiterals};
 ghost use Rattle.hys_type.specs.Declarations.{HaveLiterals};
 ghost use Rattle.hys_type.specs.Checks.{has_top, HasItemLiterals};
 ghost use Rattle.hys_type.specs.Operands.{seen};
-ghost use Rattle.hys_type.specs.Translation.{IsFormOf, else_form, left_kind};
-ghost use Rattle.hys_type.specs.Built.{AreFollowed, body_comparisons, setting_of, IsBuilt};
+ghost use Rattle.hys_type.specs.Translation.{left_kind};
+ghost use Rattle.hys_type.specs.Built.{AreFollowed, body_comparisons, IsBuilt};
+ghost use Rattle.hys_type.specs.Scopes.{setting_in, shape_comparisons, IsShapeBuilt, IsGuardForm, IsElseForm};
 
 use crate::built::{Guard, affine, difference, formula, guard_number};
 use crate::constant::Known;
@@ -31,7 +31,7 @@ use std::alloc::Global;
 fn top_number(alloc: Global, scope: &[Declared], whole: &Expr) -> Result<Affine, TypeFault>
     requires { HasLiterals (tree_of whole.now) }
     ensures top { IfOk result (λ _. has_top is_inequality (tree_of whole.now) ≡ true) }
-    ensures number { IfOk result (λ f. IsFormOf (map seen scope.now) (guard_form (map seen scope.now) (tree_of whole.now)) f) }
+    ensures number { IfOk result (λ f. IsGuardForm (map seen scope.now) (tree_of whole.now) f) }
 {
     match whole {
         Expr::Binary(op, left, right, place) => {
@@ -73,8 +73,10 @@ fn body_of_kind(
     whole: &Expr,
 ) -> Result<Body, TypeFault>
     requires { HasLiterals (tree_of whole.now) }
-    ensures body { IfOk result (λ b. IsBuilt (setting_of (map seen scope.now) known.now eps) (first + length guards.old.items) (Some kind) (said.Output (tree_of whole.now)) b) }
-    ensures guards { IfOk result (λ _. AreFollowed (map seen scope.now) guards.old.items (body_comparisons (Some kind) (said.Output (tree_of whole.now))) guards.new.items) }
+    ensures body { IfOk result (λ b. IsBuilt (setting_in scope.now known.now eps)
+        (first + length guards.old.items) (Some kind) (said.Output (tree_of whole.now)) b) }
+    ensures guards { IfOk result (λ _. AreFollowed (map seen scope.now) guards.old.items
+        (body_comparisons (Some kind) (said.Output (tree_of whole.now))) guards.new.items) }
 {
     match kind {
         Kind::Bool => Ok(Body::OutBool(formula(alloc, scope, first, guards, whole)?)),
@@ -93,8 +95,10 @@ fn output_body(
     whole: &Expr,
 ) -> Result<Body, TypeFault>
     requires { HasLiterals (tree_of whole.now) }
-    ensures body { IfOk result (λ b. IsBuilt (setting_of (map seen scope.now) known.now eps) (first + length guards.old.items) kind (said.Output (tree_of whole.now)) b) }
-    ensures guards { IfOk result (λ _. AreFollowed (map seen scope.now) guards.old.items (body_comparisons kind (said.Output (tree_of whole.now))) guards.new.items) }
+    ensures body { IfOk result (λ b. IsBuilt (setting_in scope.now known.now eps)
+        (first + length guards.old.items) kind (said.Output (tree_of whole.now)) b) }
+    ensures guards { IfOk result (λ _. AreFollowed (map seen scope.now) guards.old.items
+        (body_comparisons kind (said.Output (tree_of whole.now))) guards.new.items) }
 {
     match kind {
         None => Err(TypeFault::Kind(place_of(whole))),
@@ -112,7 +116,8 @@ fn comparison_body(
     whole: &Expr,
 ) -> Result<Body, TypeFault>
     requires { HasLiterals (tree_of whole.now) }
-    ensures { IfOk result (λ b. (j : ℕ) → IsBuilt (setting_of (map seen scope.now) known.now eps) j kind (said.Must (tree_of whole.now)) b) }
+    ensures { IfOk result (λ b. (j : ℕ) →
+        IsBuilt (setting_in scope.now known.now eps) j kind (said.Must (tree_of whole.now)) b) }
 {
     match whole {
         Expr::Binary(op, left, right, place) => {
@@ -156,8 +161,10 @@ fn demand(
     whole: &Expr,
 ) -> Result<Body, TypeFault>
     requires { HasLiterals (tree_of whole.now) }
-    ensures body { IfOk result (λ b. IsBuilt (setting_of (map seen scope.now) known.now eps) (first + length guards.old.items) kind (said.Must (tree_of whole.now)) b) }
-    ensures guards { IfOk result (λ _. AreFollowed (map seen scope.now) guards.old.items (body_comparisons kind (said.Must (tree_of whole.now))) guards.new.items) }
+    ensures body { IfOk result (λ b. IsBuilt (setting_in scope.now known.now eps)
+        (first + length guards.old.items) kind (said.Must (tree_of whole.now)) b) }
+    ensures guards { IfOk result (λ _. AreFollowed (map seen scope.now) guards.old.items
+        (body_comparisons kind (said.Must (tree_of whole.now))) guards.new.items) }
 {
     if compares(whole) {
         return comparison_body(alloc, scope, known, eps, kind, whole);
@@ -178,8 +185,12 @@ fn plain_body(
     whole: &Expr,
 ) -> Result<Body, TypeFault>
     requires { HasLiterals (tree_of whole.now) }
-    ensures body { IfOk result (λ b. IsBuilt (setting_of (map seen scope.now) known.now eps) (first + length guards.old.items) (left_kind (map seen scope.now) item.now.name) (body_in item.now.section (tree.Plain (tree_of whole.now))) b) }
-    ensures guards { IfOk result (λ _. AreFollowed (map seen scope.now) guards.old.items (body_comparisons (left_kind (map seen scope.now) item.now.name) (body_in item.now.section (tree.Plain (tree_of whole.now)))) guards.new.items) }
+    ensures body { IfOk result (λ b. IsShapeBuilt (setting_in scope.now known.now eps)
+        (first + length guards.old.items) item.now.name item.now.section
+        (tree.Plain (tree_of whole.now)) b) }
+    ensures guards { IfOk result (λ _. AreFollowed (map seen scope.now) guards.old.items
+        (shape_comparisons (map seen scope.now) item.now.name item.now.section
+        (tree.Plain (tree_of whole.now))) guards.new.items) }
 {
     match item.section {
         Section::Ad => Ok(Body::Guard {
@@ -220,8 +231,10 @@ fn wide_body(
 ) -> Result<Body, TypeFault>
     requires whole { HasLiterals (tree_of whole.now) }
     requires tolerance { HasLiterals (tree_of tolerance.now) }
-    ensures body { IfOk result (λ b. (j : ℕ) → IsBuilt (setting_of (map seen scope.now) known.now eps) j (left_kind (map seen scope.now) item.now.name) (body_in item.now.section (tree.Wide (tree_of whole.now) (tree_of tolerance.now))) b) }
-    ensures guards { body_comparisons (left_kind (map seen scope.now) item.now.name) (body_in item.now.section (tree.Wide (tree_of whole.now) (tree_of tolerance.now))) ≡ [] }
+    ensures body { IfOk result (λ b. (j : ℕ) → IsShapeBuilt (setting_in scope.now known.now eps) j
+        item.now.name item.now.section (tree.Wide (tree_of whole.now) (tree_of tolerance.now)) b) }
+    ensures guards { shape_comparisons (map seen scope.now) item.now.name item.now.section
+        (tree.Wide (tree_of whole.now) (tree_of tolerance.now)) ≡ [] }
 {
     match item.section {
         Section::Ad => {
@@ -248,7 +261,7 @@ fn wide_body(
 #[tactic(auto, using(crate::proofs::Bodies::no_else))]
 fn else_affine(alloc: Global, scope: &[Declared], other: &Option<Expr>) -> Result<Affine, TypeFault>
     requires { HaveLiterals (maybe_tree_of other.now) }
-    ensures { IfOk result (λ f. IsFormOf (map seen scope.now) (else_form (map seen scope.now) (maybe_tree_of other.now)) f) }
+    ensures { IfOk result (λ f. IsElseForm (map seen scope.now) (maybe_tree_of other.now) f) }
 {
     match other {
         None => Ok(Affine {
@@ -276,8 +289,12 @@ fn choice_body(
     requires when { HasLiterals (tree_of when.now) }
     requires hit { HasLiterals (tree_of hit.now) }
     requires other { HaveLiterals (maybe_tree_of other.now) }
-    ensures body { IfOk result (λ b. IsBuilt (setting_of (map seen scope.now) known.now eps) (first + length guards.old.items) (left_kind (map seen scope.now) item.now.name) (body_in item.now.section (tree.Choice (tree_of when.now) (tree_of hit.now) (maybe_tree_of other.now))) b) }
-    ensures guards { IfOk result (λ _. AreFollowed (map seen scope.now) guards.old.items (body_comparisons (left_kind (map seen scope.now) item.now.name) (body_in item.now.section (tree.Choice (tree_of when.now) (tree_of hit.now) (maybe_tree_of other.now)))) guards.new.items) }
+    ensures body { IfOk result (λ b. IsShapeBuilt (setting_in scope.now known.now eps)
+        (first + length guards.old.items) item.now.name item.now.section
+        (tree.Choice (tree_of when.now) (tree_of hit.now) (maybe_tree_of other.now)) b) }
+    ensures guards { IfOk result (λ _. AreFollowed (map seen scope.now) guards.old.items
+        (shape_comparisons (map seen scope.now) item.now.name item.now.section
+        (tree.Choice (tree_of when.now) (tree_of hit.now) (maybe_tree_of other.now))) guards.new.items) }
 {
     match item.section {
         Section::Da => {
@@ -313,8 +330,10 @@ pub fn body_of(
     item: &Item,
 ) -> Result<Body, TypeFault>
     requires { HasItemLiterals (item_of item.now) }
-    ensures body { IfOk result (λ b. IsBuilt (setting_of (map seen scope.now) known.now eps) (first + length guards.old.items) (left_kind (map seen scope.now) item.now.name) (body (item_of item.now)) b) }
-    ensures guards { IfOk result (λ _. AreFollowed (map seen scope.now) guards.old.items (body_comparisons (left_kind (map seen scope.now) item.now.name) (body (item_of item.now))) guards.new.items) }
+    ensures body { IfOk result (λ b. IsBuilt (setting_in scope.now known.now eps) (first + length guards.old.items)
+        (left_kind (map seen scope.now) item.now.name) (body (item_of item.now)) b) }
+    ensures guards { IfOk result (λ _. AreFollowed (map seen scope.now) guards.old.items
+        (body_comparisons (left_kind (map seen scope.now) item.now.name) (body (item_of item.now))) guards.new.items) }
 {
     match &item.shape {
         Shape::Plain(whole) => plain_body(alloc, scope, known, eps, first, guards, item, whole),

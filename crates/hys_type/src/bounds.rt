@@ -33,8 +33,10 @@ fn interval(low: Frac, high: Frac, place: Place) -> Result<Interval, TypeFault>
 fn between(known: &[Known], low: &Expr, high: &Expr, place: Place) -> Result<Interval, TypeFault>
     requires low { HasLiterals (tree_of low.now) }
     requires high { HasLiterals (tree_of high.now) }
-    ensures fault { result_err result ≡ first_fault (bounds_checks known.now (tree_of low.now) (tree_of high.now) place) }
-    ensures ends { IfOk result (λ i. (i.low ≡ value (known_values known.now) (tree_of low.now)) × (i.high ≡ value (known_values known.now) (tree_of high.now))) }
+    ensures fault { result_err result ≡
+        first_fault (bounds_checks known.now (tree_of low.now) (tree_of high.now) place) }
+    ensures ends { IfOk result (λ i. (i.low ≡ value (known_values known.now) (tree_of low.now))
+        × (i.high ≡ value (known_values known.now) (tree_of high.now))) }
 {
     let low = evaluate_as(known, Kind::Real, low)?;
     let high = evaluate_as(known, Kind::Real, high)?;

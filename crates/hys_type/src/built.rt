@@ -5,9 +5,8 @@ ghost use Rattle.hys_lin.specs.Scaled.{kept};
 ghost use Rattle.hys_lin.specs.Bits.{is_one};
 ghost use Rattle.hys_ast.specs.Seen.{tree_of};
 ghost use Rattle.hys_ast.specs.Tree as tree;
-ghost use Rattle.hys_ast.specs.declared.tree.BinaryOp.TheVariants as binary;
 ghost use Rattle.hys_meaning.specs.Names.{look};
-ghost use Rattle.hys_meaning.specs.Forms.{form, combined, guard_between};
+ghost use Rattle.hys_meaning.specs.Forms.{form};
 ghost use Rattle.hys_meaning.specs.Unfolded.{is_inequality};
 ghost use Rattle.hys_formula.specs.Formulas.{tree_of as formula_of};
 ghost use Rattle.hys_formula.specs.Formulas as formulas;
@@ -15,6 +14,7 @@ ghost use Rattle.hys_type.specs.Constants.{HasLiterals};
 ghost use Rattle.hys_type.specs.Operands.{seen};
 ghost use Rattle.hys_type.specs.Translation.{place_in, IsFormOf, name_formula, signed_by, joined_by, connective_of};
 ghost use Rattle.hys_type.specs.Built.{sparse, comparisons, built, AreFollowed};
+ghost use Rattle.hys_type.specs.Scopes.{IsDifference, IsFormBetween};
 
 use crate::dense::Dense;
 use crate::fault::TypeFault;
@@ -99,7 +99,7 @@ pub fn difference(
 ) -> Result<Affine, TypeFault>
     requires left { HasLiterals (tree_of left.now) }
     requires right { HasLiterals (tree_of right.now) }
-    ensures { IfOk result (λ f. IsFormOf (map seen scope.now) (combined binary.Sub (form (map seen scope.now) (tree_of left.now)) (form (map seen scope.now) (tree_of right.now))) f) }
+    ensures { IfOk result (λ f. IsDifference (map seen scope.now) (tree_of left.now) (tree_of right.now) f) }
 {
     let left = read_real(alloc, scope, left)?;
     let right = read_real(alloc, scope, right)?;
@@ -119,7 +119,7 @@ pub fn guard_number(
     requires op { is_inequality op ≡ true }
     requires left { HasLiterals (tree_of left.now) }
     requires right { HasLiterals (tree_of right.now) }
-    ensures { IfOk result (λ f. IsFormOf (map seen scope.now) (guard_between op (form (map seen scope.now) (tree_of left.now)) (form (map seen scope.now) (tree_of right.now))) f) }
+    ensures { IfOk result (λ f. IsFormBetween (map seen scope.now) op (tree_of left.now) (tree_of right.now) f) }
 {
     match op {
         BinaryOp::Least => difference(alloc, scope, right, left, place),
@@ -165,7 +165,8 @@ fn is_one(number: Frac) -> bool
 }
 
 fn name_formula(scope: &[Declared], name: &Text) -> Result<Formula, TypeFault>
-    ensures { IfOk result (λ l. formula_of l ≡ name_formula (map seen scope.now) name.now (look (map seen scope.now) name.now)) }
+    ensures { IfOk result (λ l.
+        formula_of l ≡ name_formula (map seen scope.now) name.now (look (map seen scope.now) name.now)) }
 {
     match look(scope, name) {
         None => Ok(Formula::Const(false)),
@@ -233,7 +234,8 @@ fn name_guard(
     requires left { HasLiterals (tree_of left.now) }
     requires right { HasLiterals (tree_of right.now) }
     ensures formula { IfOk result (λ l. formula_of l ≡ formulas.named (first + length guards.old.items)) }
-    ensures guards { IfOk result (λ _. AreFollowed (map seen scope.now) guards.old.items (tree.Binary op (tree_of left.now) (tree_of right.now) place ∷ []) guards.new.items) }
+    ensures guards { IfOk result (λ _. AreFollowed (map seen scope.now) guards.old.items
+        (tree.Binary op (tree_of left.now) (tree_of right.now) place ∷ []) guards.new.items) }
 {
     let number = guard_number(alloc, scope, op, left, right, place)?;
     let name = column_at(first)?
@@ -253,8 +255,10 @@ pub fn formula(
     whole: &Expr,
 ) -> Result<Formula, TypeFault>
     requires { HasLiterals (tree_of whole.now) }
-    ensures formula { IfOk result (λ l. formula_of l ≡ built (map seen scope.now) (first + length guards.old.items) (tree_of whole.now)) }
-    ensures guards { IfOk result (λ _. AreFollowed (map seen scope.now) guards.old.items (comparisons (tree_of whole.now)) guards.new.items) }
+    ensures formula { IfOk result (λ l.
+        formula_of l ≡ built (map seen scope.now) (first + length guards.old.items) (tree_of whole.now)) }
+    ensures guards { IfOk result (λ _.
+        AreFollowed (map seen scope.now) guards.old.items (comparisons (tree_of whole.now)) guards.new.items) }
 {
     match whole {
         Expr::Truth(truth, _) => Ok(Formula::Const(*truth)),

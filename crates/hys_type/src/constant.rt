@@ -75,7 +75,8 @@ fn literal(digits: &Text, place: Place) -> Result<Constant, TypeFault>
 #[tactic(auto, using(crate::proofs::Constants::found_here, crate::proofs::Constants::found_behind))]
 /// The known name with a text.
 pub fn find<'a>(known: &'a [Known], name: &Text) -> Option<&'a Known>
-    ensures { MatchOption result (find_known known.now name.now ≡ None) (λ k. find_known known.now name.now ≡ Some k.now) }
+    ensures { MatchOption result
+        (find_known known.now name.now ≡ None) (λ k. find_known known.now name.now ≡ Some k.now) }
 {
     match known.split_first() {
         None => None,
@@ -133,7 +134,8 @@ fn cast(known: &[Known], name: &Text, place: Place) -> Result<Constant, TypeFaul
 }
 
 fn signed(op: UnaryOp, operand: Constant, place: Place) -> Result<Constant, TypeFault>
-    ensures fault { result_err result ≡ first_fault (check (takes_unary op (constant_sort operand)) (fault.Kind place) ∷ []) }
+    ensures fault { result_err result ≡
+        first_fault (check (takes_unary op (constant_sort operand)) (fault.Kind place) ∷ []) }
     ensures worth { IfOk result (λ c. c ≡ signed_constant op operand) }
 {
     match (op, operand) {
@@ -221,7 +223,8 @@ fn joined(
     right: Constant,
     place: Place,
 ) -> Result<Constant, TypeFault>
-    ensures fault { result_err result ≡ first_fault (operator_checks op (constant_sort left) (constant_sort right) (constant_number left) (constant_number right) place) }
+    ensures fault { result_err result ≡ first_fault (operator_checks op
+        (constant_sort left) (constant_sort right) (constant_number left) (constant_number right) place) }
     ensures worth { IfOk result (λ c. c ≡ joined_constant op left right) }
 {
     match left {

@@ -24,6 +24,7 @@ pub struct Dense {
 
 // The sum, which is 0 at most names.
 #[tactic(auto, using(crate::proofs::Zeros::none_added, crate::proofs::Zeros::nothing_lost))]
+#[inline(always)]
 fn sum(left: Frac, right: Frac) -> Result<Frac, Lost>
     ensures value { IfOk result (λ r. r ≡ left +ₙ right) }
     ensures lost { result_err result ≡ first_lost (plus left right ∷ []) }
@@ -36,6 +37,7 @@ fn sum(left: Frac, right: Frac) -> Result<Frac, Lost>
 
 // The difference, which is 0 at most names.
 #[tactic(auto, using(crate::proofs::Zeros::none_subtracted, crate::proofs::Zeros::nothing_lost))]
+#[inline(always)]
 fn difference(left: Frac, right: Frac) -> Result<Frac, Lost>
     ensures value { IfOk result (λ r. r ≡ left -ₙ right) }
     ensures lost { result_err result ≡ first_lost (minus left right ∷ []) }
@@ -48,6 +50,7 @@ fn difference(left: Frac, right: Frac) -> Result<Frac, Lost>
 
 // The product, which is 0 at most names.
 #[tactic(auto, using(crate::proofs::Zeros::none_multiplied, crate::proofs::Zeros::by_none_multiplied, crate::proofs::Zeros::nothing_lost))]
+#[inline(always)]
 fn product(left: Frac, right: Frac) -> Result<Frac, Lost>
     ensures value { IfOk result (λ r. r ≡ left *ₙ right) }
     ensures lost { result_err result ≡ first_lost (times left right ∷ []) }
@@ -63,6 +66,7 @@ fn product(left: Frac, right: Frac) -> Result<Frac, Lost>
 
 // The quotient, which is 0 at most names.
 #[tactic(auto, using(crate::proofs::Zeros::none_multiplied, crate::proofs::Zeros::nothing_lost))]
+#[inline(always)]
 fn quotient(left: Frac, right: Frac) -> Result<Frac, Lost>
     requires { right ≢ whole 0 }
     ensures value { IfOk result (λ r. r ≡ left /ₙ right) }
@@ -75,6 +79,7 @@ fn quotient(left: Frac, right: Frac) -> Result<Frac, Lost>
 }
 
 // The operation between two numbers, or the two where its result doesn't fit.
+#[inline(always)]
 fn operate(op: Op, left: Frac, right: Frac) -> Result<Frac, Lost>
     requires { op ≡ operation.Div → right ≢ whole 0 }
     ensures value { IfOk result (λ r. r ≡ result_of op left right) }
@@ -95,7 +100,7 @@ fn pointwise(alloc: Global, op: Op, left: &[Frac], right: &[Frac]) -> Result<Vec
     ensures value { IfOk result (λ v. v.items ≡ zipped (result_of op) left.now right.now) }
     ensures lost { AnswersLost result (zipped (between op) left.now right.now) }
 {
-    let mut results = Vec::new(alloc);
+    let mut results = Vec::with_capacity(alloc, left.len())?;
     for at in 0..left.len() {
         results.push(operate(op, left[at], right[at])?)?;
     }
@@ -124,7 +129,7 @@ pub fn fold(alloc: Global, op: Op, left: &Dense, right: &Dense) -> Result<Dense,
 pub fn spread(alloc: Global, form: &Dense) -> Result<Dense, AllocError>
     ensures { IfOk result (λ r. r ≡ spread form.now) }
 {
-    let mut factors = Vec::new(alloc);
+    let mut factors = Vec::with_capacity(alloc, form.factors.items().len())?;
     for _ in form.factors.items() {
         factors.push(form.constant)?;
     }

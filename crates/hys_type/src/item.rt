@@ -6,14 +6,15 @@ ghost use Rattle.std.specs.Result.{result_err};
 ghost use Rattle.hys_ast.specs.Seen.{tree_of, maybe_tree_of, item_of};
 ghost use Rattle.hys_ast.specs.Tree as tree;
 ghost use Rattle.hys_ast.specs.declared.source.Kind.TheVariants as kind;
-ghost use Rattle.hys_meaning.specs.Bodies.{body, body_in};
+ghost use Rattle.hys_meaning.specs.Bodies.{body};
 ghost use Rattle.hys_meaning.specs.Typed.{suits};
 ghost use Rattle.hys_meaning.specs.Unfolded.{is_inequality};
 ghost use Rattle.hys_type.specs.Faults.{Answers, first_fault};
 ghost use Rattle.hys_type.specs.Constants.{HasLiterals};
 ghost use Rattle.hys_type.specs.Declarations.{if_some, HaveLiterals};
 ghost use Rattle.hys_type.specs.Walks.{walk};
-ghost use Rattle.hys_type.specs.Checks.{scoped, expression, has_top, of_kind, left_name, left_checks, tolerance_checks, output_checks, right_checks, item_checks, HasItemLiterals};
+ghost use Rattle.hys_type.specs.Checks.{expression, has_top, of_kind, left_name, left_checks, tolerance_checks, output_checks, right_checks, item_checks, HasItemLiterals};
+ghost use Rattle.hys_type.specs.Scopes.{scope_in, shape_checks, choice_checks};
 ghost use Rattle.hys_type.specs.Operands.{seen};
 
 use crate::constant::Known;
@@ -59,7 +60,8 @@ fn check_left(
     item: &Item,
     name: &Text,
 ) -> Result<(), TypeFault>
-    ensures { result_err result ≡ first_fault (left_checks (map seen scope.now) (map item_of before.now) (item_of item.now) name.now) }
+    ensures { result_err result ≡
+        first_fault (left_checks (map seen scope.now) (map item_of before.now) (item_of item.now) name.now) }
 {
     match look(scope, name) {
         None => Err(TypeFault::Unknown(item.place)),
@@ -76,7 +78,8 @@ fn check_left(
 }
 
 fn check_left_name(scope: &[Declared], before: &[Item], item: &Item) -> Result<(), TypeFault>
-    ensures { result_err result ≡ first_fault (if_some (left_checks (map seen scope.now) (map item_of before.now) (item_of item.now)) item.now.name) }
+    ensures { result_err result ≡ first_fault (if_some
+        (left_checks (map seen scope.now) (map item_of before.now) (item_of item.now)) item.now.name) }
 {
     match &item.name {
         None => Ok(()),
@@ -117,7 +120,8 @@ fn check_output(
     whole: &Expr,
 ) -> Result<(), TypeFault>
     requires { HasLiterals (tree_of whole.now) }
-    ensures { Answers result (output_checks (map seen scope.now) (left_name (map seen scope.now) left.now) (tree_of whole.now)) }
+    ensures { Answers result
+        (output_checks (map seen scope.now) (left_name (map seen scope.now) left.now) (tree_of whole.now)) }
 {
     match left {
         None => Ok(()),
@@ -138,7 +142,8 @@ fn check_plain(
     whole: &Expr,
 ) -> Result<(), TypeFault>
     requires { HasLiterals (tree_of whole.now) }
-    ensures { Answers result (right_checks (scoped (map seen scope.now) known.now) (left_name (map seen scope.now) item.now.name) item.now.place (body_in item.now.section (tree.Plain (tree_of whole.now)))) }
+    ensures { Answers result (shape_checks (scope_in scope.now known.now) item.now.name item.now.place item.now.section
+        (tree.Plain (tree_of whole.now))) }
 {
     match item.section {
         Section::Ad => check_guard(alloc, scope, whole),
@@ -176,7 +181,8 @@ fn check_bracketed(
 ) -> Result<(), TypeFault>
     requires whole { HasLiterals (tree_of whole.now) }
     requires tolerance { HasLiterals (tree_of tolerance.now) }
-    ensures { Answers result (expression (map seen scope.now) (has_top is_inequality) (tree_of whole.now) ++ tolerance_checks known.now place (tree_of tolerance.now)) }
+    ensures { Answers result (expression (map seen scope.now) (has_top is_inequality) (tree_of whole.now)
+        ++ tolerance_checks known.now place (tree_of tolerance.now)) }
 {
     check_guard(alloc, scope, whole)?;
     check_bracket(known, place, tolerance)
@@ -192,7 +198,8 @@ fn check_wide(
 ) -> Result<(), TypeFault>
     requires whole { HasLiterals (tree_of whole.now) }
     requires tolerance { HasLiterals (tree_of tolerance.now) }
-    ensures { Answers result (right_checks (scoped (map seen scope.now) known.now) (left_name (map seen scope.now) item.now.name) item.now.place (body_in item.now.section (tree.Wide (tree_of whole.now) (tree_of tolerance.now)))) }
+    ensures { Answers result (shape_checks (scope_in scope.now known.now) item.now.name item.now.place item.now.section
+        (tree.Wide (tree_of whole.now) (tree_of tolerance.now))) }
 {
     match item.section {
         Section::Ad => check_bracketed(alloc, scope, known, item.place, whole, tolerance),
@@ -232,7 +239,8 @@ fn check_parts(
     requires when { HasLiterals (tree_of when.now) }
     requires hit { HasLiterals (tree_of hit.now) }
     requires other { HaveLiterals (maybe_tree_of other.now) }
-    ensures { Answers result (of_kind kind.Bool (map seen scope.now) (tree_of when.now) ++ (of_kind kind.Real (map seen scope.now) (tree_of hit.now) ++ if_some (of_kind kind.Real (map seen scope.now)) (maybe_tree_of other.now))) }
+    ensures { Answers result
+        (choice_checks (map seen scope.now) (tree_of when.now) (tree_of hit.now) (maybe_tree_of other.now)) }
 {
     check_formula(alloc, scope, when)?;
     check_real(alloc, scope, hit)?;
@@ -251,7 +259,8 @@ fn check_choice(
     requires when { HasLiterals (tree_of when.now) }
     requires hit { HasLiterals (tree_of hit.now) }
     requires other { HaveLiterals (maybe_tree_of other.now) }
-    ensures { Answers result (right_checks (scoped (map seen scope.now) known.now) (left_name (map seen scope.now) item.now.name) item.now.place (body_in item.now.section (tree.Choice (tree_of when.now) (tree_of hit.now) (maybe_tree_of other.now)))) }
+    ensures { Answers result (shape_checks (scope_in scope.now known.now) item.now.name item.now.place item.now.section
+        (tree.Choice (tree_of when.now) (tree_of hit.now) (maybe_tree_of other.now))) }
 {
     match item.section {
         Section::Da => check_parts(alloc, scope, when, hit, other),
@@ -277,7 +286,8 @@ fn check_right(
     item: &Item,
 ) -> Result<(), TypeFault>
     requires { HasItemLiterals (item_of item.now) }
-    ensures { Answers result (right_checks (scoped (map seen scope.now) known.now) (left_name (map seen scope.now) item.now.name) item.now.place (body (item_of item.now))) }
+    ensures { Answers result (right_checks (scope_in scope.now known.now) (left_name (map seen scope.now) item.now.name)
+        item.now.place (body (item_of item.now))) }
 {
     match &item.shape {
         Shape::Plain(whole) => check_plain(alloc, scope, known, item, whole),
@@ -297,7 +307,7 @@ fn check_item(
     item: &Item,
 ) -> Result<(), TypeFault>
     requires { HasItemLiterals (item_of item.now) }
-    ensures { Answers result (item_checks (scoped (map seen scope.now) known.now) (map item_of before.now) (item_of item.now)) }
+    ensures { Answers result (item_checks (scope_in scope.now known.now) (map item_of before.now) (item_of item.now)) }
 {
     check_left_name(scope, before, item)?;
     check_right(alloc, scope, known, item)
@@ -311,7 +321,7 @@ pub fn check_items(
     items: &[Item],
 ) -> Result<(), TypeFault>
     requires { AllByRecursion HasItemLiterals (map item_of items.now) }
-    ensures { Answers result (walk (item_checks (scoped (map seen scope.now) known.now)) [] (map item_of items.now)) }
+    ensures { Answers result (walk (item_checks (scope_in scope.now known.now)) [] (map item_of items.now)) }
 {
     for at in 0..items.len() {
         check_item(alloc, scope, known, &items[..at], &items[at])?;

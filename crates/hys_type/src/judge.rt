@@ -41,7 +41,8 @@ fn judge_items(
     requires known { known.now ≡ known_of (map decl_of decls.now) (map decl_of decls.now) }
     requires once { differ (map (λ d. d.name) (map decl_of decls.now)) ≡ true }
     requires literals { AllByRecursion HasItemLiterals (map item_of items.now) }
-    ensures fault { Answers result (walk (item_checks (scope_by (map decl_of decls.now))) [] (map item_of items.now) ++ walk (λ before d. missing_checks (map item_of items.now) d) [] (map decl_of decls.now)) }
+    ensures fault { Answers result (walk (item_checks (scope_by (map decl_of decls.now))) [] (map item_of items.now)
+        ++ walk (λ before d. missing_checks (map item_of items.now) d) [] (map decl_of decls.now)) }
     ensures scope { IfOk result (λ v. v.items ≡ map (declared known.now) (map decl_of decls.now)) }
 {
     let scope = scope_of(alloc, known, decls)?;

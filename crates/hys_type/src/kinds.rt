@@ -39,7 +39,8 @@ fn bit(truth: bool) -> Frac
 }
 
 fn number_of(kind: Kind, constant: Constant, place: Place) -> Result<Frac, TypeFault>
-    ensures fault { result_err result ≡ first_fault (check (is_of_kind kind (constant_sort constant)) (fault.Kind place) ∷ []) }
+    ensures fault { result_err result ≡
+        first_fault (check (is_of_kind kind (constant_sort constant)) (fault.Kind place) ∷ []) }
     ensures number { IfOk result (λ n. IsNumberOf kind constant n) }
 {
     match kind {

@@ -1,6 +1,8 @@
 //! The names of the program, and as items know them.
 
-ghost use Rattle.std.specs.Prelude.{◌≡◌, [], ◌∷◌, ◌++◌, map, IfOk};
+ghost use Rattle.std.specs.Prelude.{◌≡◌, [], ◌∷◌, ◌++◌, map, cond, IfOk};
+ghost use Rattle.hys_number.specs.Ops.{whole};
+ghost use Rattle.hys_meaning.specs.Names.{is_parameter};
 ghost use Rattle.std.specs.List.{AllByRecursion};
 ghost use Rattle.hys_ast.specs.Seen.{decl_of};
 ghost use Rattle.hys_type.specs.Faults.{Answers};
@@ -13,7 +15,7 @@ ghost use Rattle.hys_type.specs.Made.{declared, program_name};
 use crate::bounds::box_of;
 use crate::constant::{Known, find};
 use crate::fault::TypeFault;
-use crate::scope::Declared;
+use crate::scope::{Declared, is_parameter};
 use hys_ast::{Decl, Section};
 use hys_base::Text;
 use hys_frac::Frac;
@@ -30,6 +32,17 @@ fn value_of(known: &[Known], name: &Text) -> Frac
             None => Frac::whole(0),
             Some(value) => value,
         },
+    }
+}
+
+// The value of a declared parameter, and 0 for any other name.
+fn own_value(known: &[Known], decl: &Decl) -> Frac
+    ensures { result ≡ cond (is_parameter decl.now.section) (known_values known.now decl.now.name) (whole 0) }
+{
+    if is_parameter(decl.section) {
+        value_of(known, &decl.name)
+    } else {
+        Frac::whole(0)
     }
 }
 
@@ -66,7 +79,7 @@ fn declared_name(known: &[Known], decl: &Decl) -> Result<Name, TypeFault>
         kind: decl.kind,
         place: decl.place,
         bounds,
-        value: value_of(known, &decl.name),
+        value: own_value(known, decl),
     })
 }
 

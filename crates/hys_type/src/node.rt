@@ -46,7 +46,7 @@ pub enum Node {
 fn number_form(alloc: Global, scope: &[Declared], number: Frac) -> Result<Dense, AllocError>
     ensures { IfOk result (λ d. IsDense (map seen scope.now) (number_form number) d) }
 {
-    let mut factors = Vec::new(alloc);
+    let mut factors = Vec::with_capacity(alloc, scope.len())?;
     for _ in scope {
         factors.push(Frac::whole(0))?;
     }
@@ -56,6 +56,7 @@ fn number_form(alloc: Global, scope: &[Declared], number: Frac) -> Result<Dense,
     })
 }
 
+#[inline(always)]
 fn unit_factor(name: &Text, declared: &Declared) -> Frac
     ensures { result ≡ cond (bytes_eq name.now declared.now.text) (whole 1) (whole 0) }
 {
@@ -70,7 +71,7 @@ fn unit_factor(name: &Text, declared: &Declared) -> Frac
 fn unit_form(alloc: Global, scope: &[Declared], name: &Text) -> Result<Dense, AllocError>
     ensures { IfOk result (λ d. IsDense (map seen scope.now) (unit_form name.now) d) }
 {
-    let mut factors = Vec::new(alloc);
+    let mut factors = Vec::with_capacity(alloc, scope.len())?;
     for declared in scope {
         factors.push(unit_factor(name, declared))?;
     }
@@ -87,7 +88,8 @@ fn declared_form(
     name: &Text,
     found: &Declared,
 ) -> Result<Dense, AllocError>
-    ensures { IfOk result (λ d. IsDense (map seen scope.now) (parameter_or name.now found.now.value (is_parameter found.now.section)) d) }
+    ensures { IfOk result (λ d.
+        IsDense (map seen scope.now) (parameter_or name.now found.now.value (is_parameter found.now.section)) d) }
 {
     if is_parameter(found.section) {
         number_form(alloc, scope, found.value)
@@ -152,7 +154,7 @@ fn cast(alloc: Global, scope: &[Declared], name: &Text, place: Place) -> Result<
 fn negated(alloc: Global, form: &Dense) -> Result<Dense, AllocError>
     ensures { IfOk result (λ r. r ≡ negated form.now) }
 {
-    let mut factors = Vec::new(alloc);
+    let mut factors = Vec::with_capacity(alloc, form.factors.items().len())?;
     for factor in form.factors.items() {
         factors.push(factor.neg())?;
     }
@@ -205,7 +207,8 @@ pub fn folded(
 #[tactic(auto, using(crate::proofs::Operands::spread_length))]
 fn product(alloc: Global, left: &Dense, right: &Dense, place: Place) -> Result<Node, TypeFault>
     requires same { length left.now.factors ≡ length right.now.factors }
-    ensures fault { Answers result (linear binary.Mul left.now right.now place ++ in_range place (multiplied (has_none left.now) left.now right.now)) }
+    ensures fault { Answers result (linear binary.Mul left.now right.now place
+        ++ in_range place (multiplied (has_none left.now) left.now right.now)) }
     ensures node { IfOk result (λ n. n ≡ node.Real (product (has_none left.now) left.now right.now)) }
 {
     if is_constant(left) {
@@ -231,7 +234,8 @@ fn is_zero(number: Frac) -> bool
 #[tactic(auto, using(crate::proofs::Operands::spread_length, crate::proofs::Operands::not_zero, crate::proofs::Operands::each_divisor))]
 fn quotient(alloc: Global, left: &Dense, right: &Dense, place: Place) -> Result<Node, TypeFault>
     requires same { length left.now.factors ≡ length right.now.factors }
-    ensures fault { Answers result (linear binary.Div left.now right.now place ++ in_range place (folded_by operation.Div left.now (spread right.now))) }
+    ensures fault { Answers result (linear binary.Div left.now right.now place
+        ++ in_range place (folded_by operation.Div left.now (spread right.now))) }
     ensures node { IfOk result (λ n. n ≡ node.Real (folded_form operation.Div left.now (spread right.now))) }
 {
     if !is_constant(right) {

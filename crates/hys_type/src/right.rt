@@ -156,7 +156,8 @@ fn is_above_zero(number: Frac) -> bool
 }
 
 fn positive(tolerance: Frac, place: Place) -> Result<Frac, TypeFault>
-    ensures fault { result_err result ≡ first_fault (check (is_less (number_cmp (whole 0) tolerance)) (fault.Tolerance place tolerance) ∷ []) }
+    ensures fault { result_err result ≡
+        first_fault (check (is_less (number_cmp (whole 0) tolerance)) (fault.Tolerance place tolerance) ∷ []) }
     ensures number { IfOk result (λ n. n ≡ tolerance) }
 {
     if is_above_zero(tolerance) {

@@ -20,7 +20,8 @@ pub struct Declared {
 /// The declared name with a text.
 #[tactic(auto, using(crate::proofs::Operands::seen_here, crate::proofs::Operands::seen_behind))]
 pub fn look<'a>(scope: &'a [Declared], name: &Text) -> Option<&'a Declared>
-    ensures { MatchOption result (look (map seen scope.now) name.now ≡ None) (λ d. look (map seen scope.now) name.now ≡ Some (seen d.now)) }
+    ensures { MatchOption result
+        (look (map seen scope.now) name.now ≡ None) (λ d. look (map seen scope.now) name.now ≡ Some (seen d.now)) }
 {
     match scope.split_first() {
         None => None,

@@ -4,7 +4,7 @@ ghost use Rattle.std.specs.Prelude.{◌≡◌, ◌≤◌, ◌<◌, ◌^◌, ◌+
 ghost use Rattle.std.specs.List.{AllByRecursion, sum_by};
 ghost use Rattle.hys_number.specs.Ops.{◌<ₙ◌, whole};
 ghost use Rattle.hys_ast.specs.Seen.{decl_of, item_of, source_of};
-ghost use Rattle.hys_type.specs.Faults.{Answers};
+ghost use Rattle.hys_type.specs.Faults.{Answers, IsOneOrOther};
 ghost use Rattle.hys_meaning.specs.Names.{parameters};
 ghost use Rattle.hys_meaning.specs.Unfolded.{unfolded};
 ghost use Rattle.hys_meaning.specs.Weight.{item_weight, weight};
@@ -17,7 +17,7 @@ ghost use Rattle.hys_type.specs.Built.{setting_of};
 ghost use Rattle.hys_type.specs.Operands.{seen};
 ghost use Rattle.hys_type.specs.Translation.{place_if, IsTranslation};
 ghost use Rattle.hys_type.specs.Guarding.{name_of_guard, names_of_guards, items_of_guards};
-ghost use Rattle.hys_type.specs.Checks.{checks, HasItemLiterals, HasSourceLiterals};
+ghost use Rattle.hys_type.specs.Checks.{checks, fault_of, HasItemLiterals, HasSourceLiterals};
 
 use crate::body::body_of;
 use crate::built::{Guard, column_at, place_in};
@@ -145,7 +145,8 @@ fn assemble(alloc: Global, source: &Source, eps: Frac, judged: Judged) -> Result
     ensures system { IfOk result (λ p. p.system ≡ source.now.system) }
     ensures items { IfOk result (λ p. AreAdded (setting_of (map seen judged.scope.items) judged.known.items eps)
         (map item_of source.now.items) (lists judged.names.items []) (lists p.names p.items)) }
-    ensures weight { IfOk result (λ p. p.weight ≡ names_weight p.names + sum_by item_weight (map item_of source.now.items)) }
+    ensures weight { IfOk result (λ p.
+        p.weight ≡ names_weight p.names + sum_by item_weight (map item_of source.now.items)) }
     ensures few { IfOk result (λ p. length p.names < 2 ^ 63) }
 {
     let Judged {
@@ -163,16 +164,19 @@ fn assemble(alloc: Global, source: &Source, eps: Frac, judged: Judged) -> Result
     })
 }
 
-/// The program of a source, or the fault of its first check that fails. Its names are those of the declarations, and
+/// The program of a source where no check fails, and else the fault of the first that does. Its names are those of the declarations, and
 /// behind them those of the unnamed guards in the order of their numbers. The program is the translation of the source,
 /// and keeps the rules of programs where the source is one that is read from a text.
+#[tactic(auto, using(crate::proofs::OneOrOther::one_or_other))]
 pub fn program(alloc: Global, source: &Source, eps: Frac) -> Result<Program, TypeFault>
     requires eps { whole 0 <ₙ eps }
     requires literals { HasSourceLiterals (source_of source.now) }
     requires declarations { AllByRecursion IsDeclaration (source_of source.now).decls }
     ensures fault { Answers result (checks (source_of source.now)) }
+    ensures one_or_other { IsOneOrOther (fault_of (source_of source.now)) result }
     ensures system { IfOk result (λ p. p.system ≡ source.now.system) }
-    ensures weight { IfOk result (λ p. p.weight ≡ names_weight p.names + sum_by item_weight (map item_of source.now.items)) }
+    ensures weight { IfOk result (λ p.
+        p.weight ≡ names_weight p.names + sum_by item_weight (map item_of source.now.items)) }
     ensures source_weight { IfOk result (λ p. p.weight ≡ weight (source_of source.now)) }
     ensures names { IfOk result (λ p. AreDeclaredFirst (parameters (map decl_of source.now.decls))
         (map decl_of source.now.decls) p.names) }

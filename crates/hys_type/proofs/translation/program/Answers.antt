@@ -14,6 +14,7 @@ use Rattle.hys_type.proofs.AllItems.{whole_made, few_guards}
 use Rattle.hys_type.proofs.DeclaredNames.{declared_first}
 use Rattle.hys_type.proofs.UnfoldedWeight.{source_weighs}
 use Rattle.hys_type.proofs.Passing.{none_passes}
+use Rattle.hys_type.proofs.OneOrOther.{one_or_other}
 use Rattle.hys_type.proofs.SourceRules.{source_rule}
 use Rattle.hys_type.proofs.TypingRules.{typing_kept}
 use Rattle.hys_type.proofs.ProgramItems.{translation_program}
@@ -28,6 +29,12 @@ pub returns-in-Ok-clause-fault : goal.returns-in-Ok-clause-fault
 returns-in-Ok-clause-fault c =
     let e = ap₂ (λ (ds : List Decl) (is : List Item). first_fault (checks_by (map decl_of ds) (map item_of is))) c.items.ensures c.items-2.ensures in
     c.in_ok-judged.ensures.fault ∙ e
+
+pub returns-in_err-judged-clause-one_or_other : goal.returns-in_err-judged-clause-one_or_other
+returns-in_err-judged-clause-one_or_other c = one_or_other _ (checks (source_of c.args.source.now)) (returns-in_err-judged-clause-fault c)
+
+pub returns-in-Ok-clause-one_or_other : goal.returns-in-Ok-clause-one_or_other
+returns-in-Ok-clause-one_or_other c = one_or_other _ (checks (source_of c.args.source.now)) (returns-in-Ok-clause-fault c)
 
 pub returns-in-Ok-clause-names : goal.returns-in-Ok-clause-names
 returns-in-Ok-clause-names c =
