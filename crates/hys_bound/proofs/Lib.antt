@@ -7,4 +7,5 @@
 -- - Trap: a slice got twice is two steps (`c.as_slice`, `c.as_slice-2`): collect their equations in one lemma.
 pub mod Turns
 pub mod Holding
+pub mod Fixing
 pub mod Example

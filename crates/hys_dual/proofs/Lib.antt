@@ -8,3 +8,8 @@ pub mod Values
 pub mod Summed
 pub mod Multiplying
 pub mod Nodes
+pub mod Finishing
+pub mod Goings
+pub mod Ends
+pub mod Solved
+pub mod Lawful

@@ -4,3 +4,6 @@ pub mod Ranging
 pub mod Leave
 pub mod Enter
 pub mod Costs
+pub mod Relaxing
+pub mod Choosing
+pub mod Laws

@@ -3,12 +3,24 @@
 #![tactic(auto)]
 
 mod bound;
+mod choice;
 mod end;
 mod entering;
+mod finish;
+pub mod laws;
 mod multipliers;
 mod node;
 mod off_range;
+mod point;
 mod products;
 mod raised;
 mod ranges;
+mod relaxed;
+mod run;
+mod solver;
 mod stand;
+mod warm;
+
+pub use relaxed::Relaxed;
+pub use solver::{solve, solve_from};
+pub use warm::{Warm, first};

@@ -53,7 +53,7 @@ not_both Output e f = absurd (cc)
 not_both Parameter e f = absurd (cc)
 not_both Aux e f = absurd (cc)
 
-split_name : (P Q R : Name → Type 0) (xs : List Name) (n : ℕ) → ((x : Name) → P x → Q x ⊎ R x) → NameAt xs n P → NameAt xs n Q ⊎ NameAt xs n R
+pub split_name : (P Q R : Name → Type 0) (xs : List Name) (n : ℕ) → ((x : Name) → P x → Q x ⊎ R x) → NameAt xs n P → NameAt xs n Q ⊎ NameAt xs n R
 split_name P Q R [] n f h = absurd h
 split_name P Q R (x ∷ xs) zero f h = f x h
 split_name P Q R (x ∷ xs) (suc n) f h = split_name P Q R xs n f h

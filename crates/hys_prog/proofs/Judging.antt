@@ -93,7 +93,7 @@ walk_stops p o x u w h q v =
     ∙ six (boxes_from 0 is_state w p.names) (boxes_from 0 is_input w p.names) (checks_along w p.items o.names) (demands_from 0 w p.items) (checks_along w p.items (places is_state p)) (checks_along w p.items (places is_output p))
 
 -- ---- lawful checks
-none_lawful : (cs : List Check) → first_stop cs ≡ None → IsLawful cs
+pub none_lawful : (cs : List Check) → first_stop cs ≡ None → IsLawful cs
 none_lawful [] e = tt
 none_lawful (c ∷ cs) e = go c.passes e (none_lawful cs)
   where
@@ -235,7 +235,7 @@ gap_lawful w k (MustMost f) h i = absurd (cc)
 gap_lawful w k (MustZero f) h i = absurd (cc)
 
 -- ---- items that define names
-first_here : (p : Program) (w : Assignment) (k n : ℕ) (t : ProgItem) → IsProgram p → Stands p k t → t.name ≡ Some n → checks_of w n 0 p.items ≡ body_checks w k t.body
+pub first_here : (p : Program) (w : Assignment) (k n : ℕ) (t : ProgItem) → IsProgram p → Stands p k t → t.name ≡ Some n → checks_of w n 0 p.items ≡ body_checks w k t.body
 first_here p w k n t h s e = checks_here w n p.items k t (first_at n p.items k (once_here p k n t h s e) (at_item (Defines n) p.items k t e s.below s.is)) s.is
 
 along_lawful : (w : Assignment) (ts : List ProgItem) (ns : List ℕ) (n : ℕ) → IsLawful (checks_along w ts ns) → IsIn n ns → IsLawful (checks_of w n 0 ts)
@@ -390,7 +390,7 @@ walk_stepped p o x u (Ok s) h q l m g j =
     record { values = w; legal = rw (g.next, g.outputs) y; aux = g.aux }
 
 -- ---- no check fails
-lawful_fit : (cs : List Check) → first_stop cs ≡ None → AllFit cs
+pub lawful_fit : (cs : List Check) → first_stop cs ≡ None → AllFit cs
 lawful_fit [] e = tt
 lawful_fit (c ∷ cs) e = go c.passes e (lawful_fit cs)
   where
@@ -404,7 +404,7 @@ lawful_fit (c ∷ cs) e = go c.passes e (lawful_fit cs)
     go true e f = (holds c.stop, f e)
     go false e f = absurd (cc)
 
-fit_none : (cs : List Check) → IsLawful cs → AllFit cs → first_stop cs ≡ None
+pub fit_none : (cs : List Check) → IsLawful cs → AllFit cs → first_stop cs ≡ None
 fit_none [] h k = refl
 fit_none (c ∷ cs) h k = rw (go c.passes c.stop h.0 k.0) (fit_none cs h.1 k.1)
   where

@@ -20,4 +20,5 @@ pub mod Reading
 pub mod Assigning
 pub mod Valuing
 pub mod Judging
+pub mod Fitted
 pub mod Guards

@@ -106,7 +106,7 @@ cases_follow p w h c n a = follows_in p.names w n p.items c h.named a (h.once n 
 role_defined : (r s : Role) → r ≡ s → is_defined s ≡ true → is_defined r ≡ true
 role_defined r s e f = rw e f
 
-suits_defined : (b : Body) (x : Name) → Suits b x → is_defined x.role ≡ true
+pub suits_defined : (b : Body) (x : Name) → Suits b x → is_defined x.role ≡ true
 suits_defined (Guard f e) x h = role_defined x.role Aux h.0 refl
 suits_defined (Choice l a b) x h = role_defined x.role Aux h.0 refl
 suits_defined (Logic l) x h = role_defined x.role Aux h.0 refl

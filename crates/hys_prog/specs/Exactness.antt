@@ -7,7 +7,7 @@ use Rattle.hys_prog.specs.declared.program.Order.{Order}
 use Rattle.hys_prog.specs.Programs.{IsProgram, NameAt}
 use Rattle.hys_prog.specs.Orders.{IsOrder}
 use Rattle.hys_prog.specs.Steps.{places, is_state, is_input, is_output, Step, Legal}
-use Rattle.hys_prog.specs.Stops.{AllFit, Check, IsLawful, IsValued, first_stop, numbers_in, stops}
+use Rattle.hys_prog.specs.Stops.{AllFit, Check, IsLawful, IsValued, first_stop, part_numbers, stops}
 
 -- each choice of as many values as there are states and inputs has a valued assignment
 abbrev pub HasAssignments : Program → Type 0
@@ -31,10 +31,10 @@ HasOneStep p =
 
 -- the numbers that the items give to the states and to the outputs
 abbrev pub next_of : Program → Assignment → List Number
-next_of p w = numbers_in w p.items (places is_state p)
+next_of p w = part_numbers is_state p w
 
 abbrev pub outputs_of : Program → Assignment → List Number
-outputs_of p w = numbers_in w p.items (places is_output p)
+outputs_of p w = part_numbers is_output p w
 
 -- no check of boxes, gaps and demands fails exactly at a legal step with the numbers that the items give
 abbrev pub IsLegalExactly : Program → Order → Type 0

@@ -16,14 +16,27 @@ use Rattle.hys_prog.specs.declared.program.Program.{Program}
 abbrev pub start : Place
 start = record { byte = 0; line = 1; col = 1 }
 
+-- ---- one state
+abbrev pub kept_name : Name
+kept_name = record {
+  text = codes "x";
+  role = State;
+  kind = Real;
+  place = start;
+  bounds = record { low = whole 0; high = whole 10 };
+  value = whole 0;
+}
+
+abbrev pub kept_item : ProgItem
+kept_item = record {
+  name = Some 0;
+  place = start;
+  body = NextReal (record { terms = record { column = 0; factor = whole 1 } ∷ []; constant = whole 0 });
+}
+
 -- one real state keeps its value
 abbrev pub example : Program
-example = record {
-  system = codes "p";
-  names = record { text = codes "x"; role = State; kind = Real; place = start; bounds = record { low = whole 0; high = whole 10 }; value = whole 0 } ∷ [];
-  items = record { name = Some 0; place = start; body = NextReal (record { terms = record { column = 0; factor = whole 1 } ∷ []; constant = whole 0 }) } ∷ [];
-  weight = 1;
-}
+example = record { system = codes "p"; names = kept_name ∷ []; items = kept_item ∷ []; weight = 1 }
 
 -- ---- two auxiliaries
 -- a real name with the box from 0 to the number

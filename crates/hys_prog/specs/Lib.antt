@@ -5,5 +5,6 @@ pub mod Orders
 pub mod Places
 pub mod Stops
 pub mod Walk
+pub mod Fitting
 pub mod Guarded
 pub mod Exactness

@@ -68,11 +68,15 @@ LeadsTo p first [] = Unit {0}
 LeadsTo p first (n ∷ []) = Leads p n first
 LeadsTo p first (n ∷ m ∷ ns) = Leads p n m × LeadsTo p first (m ∷ ns)
 
+-- each name is an auxiliary
+abbrev pub AreAuxiliaries : Program → List ℕ → Type 0
+AreAuxiliaries p ns = AllByRecursion (λ m. IsIn m (places is_auxiliary p)) ns
+
 -- different auxiliaries, of which each is mentioned in the definition of the one before it, and the first in that
 -- of the last
 abbrev pub Circular : Program → List ℕ → Type 0
 Circular p [] = ⊥
-Circular p (n ∷ ns) = AllByRecursion (λ m. IsIn m (places is_auxiliary p)) (n ∷ ns) × AreDifferent (n ∷ ns) × LeadsTo p n (n ∷ ns)
+Circular p (n ∷ ns) = AreAuxiliaries p (n ∷ ns) × AreDifferent (n ∷ ns) × LeadsTo p n (n ∷ ns)
 
 -- ---- orders of definition
 -- the name isn't taken, and each auxiliary that its definition mentions is

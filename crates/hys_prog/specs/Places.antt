@@ -17,7 +17,8 @@ Defines n t = t.name ≡ Some n
 
 -- of each name that is defined the place of the item that defines it
 abbrev pub ArePlaces : Program → List ℕ → Type 0
-ArePlaces p places = (n : ℕ) → NameAt p.names n (λ x. is_defined x.role ≡ true) → ItemAt p.items (get_or places n 0) (Defines n)
+ArePlaces p places =
+    (n : ℕ) → NameAt p.names n (λ x. is_defined x.role ≡ true) → ItemAt p.items (get_or places n 0) (Defines n)
 
 -- the places with that of one name more
 abbrev pub noted : List ℕ → Option ℕ → ℕ → List ℕ
@@ -26,4 +27,5 @@ noted places None k = places
 
 -- of each name that one of so many items defines the place of one that does
 pub record AreFound (items : List ProgItem) (count : ℕ) (places : List ℕ) : Type 0 where
-  pub found : (n : ℕ) → n < length places → SomeItem (Defines n) (take count items) → ItemAt items (get_or places n 0) (Defines n)
+  pub found : (n : ℕ) → n < length places → SomeItem (Defines n) (take count items) →
+      ItemAt items (get_or places n 0) (Defines n)

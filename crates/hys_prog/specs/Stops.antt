@@ -98,10 +98,22 @@ form_fits w k f = fitting k (evaluating w f)
 abbrev pub no_gap : ℕ → Number → Number → List Check
 no_gap k e g = one (at_most g (whole 0) || at_most e g) (Gap k)
 
+-- a guard number is computed, and then it isn't in its gap
+abbrev pub guard_checks : Assignment → ℕ → Affine → Number → List Check
+guard_checks w k f e = form_fits w k f ++ no_gap k e (value f w)
+
+-- a form is computed, and then it is at most 0
+abbrev pub most_checks : Assignment → ℕ → Affine → List Check
+most_checks w k f = form_fits w k f ++ one (at_most (value f w) (whole 0)) (Must k)
+
+-- a form is computed, and then it is 0
+abbrev pub zero_checks : Assignment → ℕ → Affine → List Check
+zero_checks w k f = form_fits w k f ++ one (equals (value f w) (whole 0)) (Must k)
+
 -- of a body at the place: its numbers fit, of a choice those of the chosen form alone; then a guard number isn't in
 -- its gap, and a demand holds
 abbrev pub body_checks : Assignment → ℕ → Body → List Check
-body_checks w k (Guard f e) = form_fits w k f ++ no_gap k e (value f w)
+body_checks w k (Guard f e) = guard_checks w k f e
 body_checks w k (Choice l a b) = form_fits w k (cond (truth (tree_of l) w) a b)
 body_checks w k (Logic l) = []
 body_checks w k (Linear f) = form_fits w k f
@@ -110,14 +122,18 @@ body_checks w k (NextReal f) = form_fits w k f
 body_checks w k (OutBool l) = []
 body_checks w k (OutReal f) = form_fits w k f
 body_checks w k (MustHold l) = one (truth (tree_of l) w) (Must k)
-body_checks w k (MustMost f) = form_fits w k f ++ one (at_most (value f w) (whole 0)) (Must k)
-body_checks w k (MustZero f) = form_fits w k f ++ one (equals (value f w) (whole 0)) (Must k)
+body_checks w k (MustMost f) = most_checks w k f
+body_checks w k (MustZero f) = zero_checks w k f
 
 -- ---- of a program
+-- the name at the place is in its box, where its role is of the part
+abbrev pub box_checks : (Role → Bool) → ℕ → Name → Number → List Check
+box_checks part n k a = cond (part k.role) (one (in_box k a) (Bounds n)) []
+
 -- each name with a role of the part is in its box, in order of declaration
 abbrev pub boxes_from : ℕ → (Role → Bool) → Assignment → List Name → List Check
 boxes_from n part w [] = []
-boxes_from n part w (k ∷ ks) = cond (part k.role) (one (in_box k (w n)) (Bounds n)) [] ++ boxes_from (suc n) part w ks
+boxes_from n part w (k ∷ ks) = box_checks part n k (w n) ++ boxes_from (suc n) part w ks
 
 -- the checks of the first item from place k on that defines the name
 abbrev pub checks_of : Assignment → ℕ → ℕ → List ProgItem → List Check
@@ -138,13 +154,17 @@ abbrev pub demands_from : ℕ → Assignment → List ProgItem → List Check
 demands_from k w [] = []
 demands_from k w (t ∷ ts) = demand_checks w k t.body ++ demands_from (suc k) w ts
 
+-- the checks of the definitions of the names with a role of the part
+abbrev pub part_checks : (Role → Bool) → Program → Assignment → List Check
+part_checks part p w = checks_along w p.items (places part p)
+
 -- All that may stop a step: the boxes of the states and then of the inputs, the auxiliaries in the order of
 -- definition, the demands, the next values, and the outputs.
 abbrev pub stops : Program → Order → Assignment → List Check
 stops p o w =
     boxes_from 0 is_state w p.names ++ (boxes_from 0 is_input w p.names ++ (checks_along w p.items o.names ++
     (demands_from 0 w p.items ++
-    (checks_along w p.items (places is_state p) ++ checks_along w p.items (places is_output p)))))
+    (part_checks is_state p w ++ part_checks is_output p w))))
 
 -- ---- what is answered
 -- the stop is that of the first check that fails; want of memory is free
@@ -157,6 +177,16 @@ abbrev pub Judged : {X : Type 0} → List Check → Result X StepFault → Type 
 Judged cs (Ok x) = first_stop cs ≡ None
 Judged cs (Err f) = Faulted cs f
 
+-- so over each assignment that the values of states and inputs allow
+abbrev pub JudgedByStops : {X : Type 0} → Program → Order → List Number → List Number → Result X StepFault → Type 0
+JudgedByStops p o x u r = (w : Assignment) → IsValued p x u w → Judged (stops p o w) r
+
+-- the answer is given where the property holds, and a stop where it doesn't; want of memory is free
+abbrev pub GivenWhere : {X : Type 0} → Type 0 → Result X StepFault → Type 0
+GivenWhere P (Ok x) = P
+GivenWhere P (Err (Stopped s)) = ¬ P
+GivenWhere P (Err Memory) = Unit {0}
+
 -- the number that the first item that defines the name gives it
 abbrev pub number_in : Assignment → ℕ → List ProgItem → Number
 number_in w n [] = whole 0
@@ -166,6 +196,10 @@ number_in w n (t ∷ ts) = cond (is_named n t.name) (number_of w t.body) (number
 abbrev pub numbers_in : Assignment → List ProgItem → List ℕ → List Number
 numbers_in w items [] = []
 numbers_in w items (n ∷ ns) = number_in w n items ∷ numbers_in w items ns
+
+-- those that they give to the names with a role of the part
+abbrev pub part_numbers : (Role → Bool) → Program → Assignment → List Number
+part_numbers part p w = numbers_in w p.items (places part p)
 
 -- ---- checks that aren't of numbers that must fit
 abbrev pub Keeps : Bool → Stop → Type 0

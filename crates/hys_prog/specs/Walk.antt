@@ -1,5 +1,6 @@
 -- The exact values of a program's names, found along an order of definition.
 use Rattle.std.specs.Prelude.{◌≡◌, ℕ, zero, suc, ◌<◌, List, [], ◌∷◌, ◌++◌, Bool, true, false, cond, length, map}
+use Rattle.std.specs.List.{AllByRecursion}
 use Rattle.std.proofs.Common.{get_or, set}
 use Rattle.hys_number.specs.Number.{Number}
 use Rattle.hys_number.specs.Ops.{whole}
@@ -56,6 +57,10 @@ IsFirstAt (t ∷ ts) (suc k) n = (is_named n t.name ≡ false) × IsFirstAt ts k
 pub record IsPlaced (items : List ProgItem) (places : List ℕ) (n : ℕ) : Type 0 where
   pub within : n < length places
   pub first : IsFirstAt items (get_or places n 0) n
+
+-- so of each name with a role of the part
+abbrev pub ArePlaced : (Role → Bool) → Program → List ℕ → Type 0
+ArePlaced part p ks = AllByRecursion (IsPlaced p.items ks) (places part p)
 
 -- the values, of which that of one auxiliary is found more
 abbrev pub with_found : List ProgItem → ℕ → List Number → List Number

@@ -1,8 +1,7 @@
-ghost use Rattle.std.specs.Prelude.{◌≡◌, ◌<◌, ◌^◌, suc, [], cond, map, IfOk};
+ghost use Rattle.std.specs.Prelude.{◌≡◌, ◌<◌, ◌^◌, suc, map, IfOk};
 ghost use Rattle.hys_lin.specs.Sums.{at};
-ghost use Rattle.hys_prog.specs.declared.stop.Stop.TheVariants.{Bounds};
 ghost use Rattle.hys_prog.specs.Steps.{places_from};
-ghost use Rattle.hys_prog.specs.Stops.{Judged, boxes_from, in_box as in_box_of, one};
+ghost use Rattle.hys_prog.specs.Stops.{Judged, box_checks, boxes_from};
 ghost use Rattle.hys_prog.specs.Walk.{is_role as is_role_of, advanced, first_value as first_value_of, given_checks, started};
 
 use crate::number::{in_box, number_at};
@@ -79,7 +78,7 @@ fn is_role(role: Role, part: Role) -> bool
     role == part
 }
 
-// The places of the names of the role, in order of declaration.
+/// The places of the names of the role, in order of declaration.
 pub fn places_of(alloc: Global, names: &[Name], part: Role) -> Result<Vec<usize>, AllocError>
     ensures { IfOk result (λ ns. ns.items ≡ places_from 0 (is_role_of part) names.now) }
 {
@@ -128,7 +127,7 @@ fn judge_boxes(names: &[Name], part: Role, values: &[Frac]) -> Result<(), StepFa
 
 // The name is in its bounds, where it has the role.
 fn judge_box(n: usize, name: &Name, part: Role, values: &[Frac]) -> Result<(), StepFault>
-    ensures { Judged (cond (is_role_of part name.now.role) (one (in_box_of name.now (at values.now n)) (Bounds n)) []) result }
+    ensures { Judged (box_checks (is_role_of part) n name.now (at values.now n)) result }
 {
     if !is_role(name.role, part) {
         return Ok(());

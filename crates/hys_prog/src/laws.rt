@@ -7,6 +7,7 @@ ghost use Rattle.hys_lin.specs.Operations.{plus};
 ghost use Rattle.hys_prog.specs.Programs.{IsProgram};
 ghost use Rattle.hys_prog.specs.Orders.{IsOrder};
 ghost use Rattle.hys_prog.specs.Exactness.{HasAssignments, HasOneAssignment, HasOneStep, IsLegalExactly, PassesExactly, PassesWhereLegal, StepsAsGiven};
+ghost use Rattle.hys_prog.specs.Fitting.{IsFirstStop, NothingStops};
 ghost use Rattle.hys_prog.specs.Stops.{Check, IsLawful, IsValued, demand_checks, first_stop, in_box, no_gap, number_in, stops};
 ghost use Rattle.hys_lin.specs.Sums.{Assignment};
 ghost use Rattle.hys_prog.specs.Steps.{DemandOf, InBox};
@@ -45,6 +46,18 @@ pub fn no_stop_is_legal()
     ensures legal { (p : Program) (o : Order) → IsProgram p → IsOrder p o → IsLegalExactly p o }
     ensures passes { (p : Program) (o : Order) → IsProgram p → PassesWhereLegal p o }
     ensures step { (p : Program) → IsProgram p → StepsAsGiven p }
+{}
+
+/// Nothing stops a step exactly where there is a legal one all of whose partial values fit, whatever
+/// assignment the checks are read over.
+pub fn nothing_stops()
+    ensures { (p : Program) (o : Order) → IsProgram p → IsOrder p o → NothingStops p o }
+{}
+
+/// The first stop is that of the check that fails where all before it pass; there is none exactly
+/// where all pass.
+pub fn first_stops()
+    ensures { (cs : List Check) → IsFirstStop cs }
 {}
 
 /// The checks are those of a legal step: a name's passes exactly where the number is in its box, a

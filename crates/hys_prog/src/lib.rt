@@ -15,6 +15,7 @@ mod stop;
 mod tests;
 
 pub use definition::definitions;
+pub use given::places_of;
 pub use hys_formula::{Connective, Formula, NameId};
 pub use program::{Body, Name, Order, ProgItem, Program, Role};
 pub use stepping::step;

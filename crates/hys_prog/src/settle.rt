@@ -1,9 +1,9 @@
-ghost use Rattle.std.specs.Prelude.{◌≡◌, ◌++◌, IfOk};
+ghost use Rattle.std.specs.Prelude.{◌≡◌, IfOk};
 ghost use Rattle.hys_lin.specs.Sums.{at, value as value_of};
 ghost use Rattle.hys_lin.specs.Bits.{bit as bit_of};
 ghost use Rattle.hys_number.specs.Ops.{whole};
 ghost use Rattle.hys_prog.specs.declared.stop.Stop.TheVariants.{Must};
-ghost use Rattle.hys_prog.specs.Stops.{Judged, body_checks, form_fits, no_gap, one, number_of, at_most, equals};
+ghost use Rattle.hys_prog.specs.Stops.{Judged, body_checks, form_fits, guard_checks, most_checks, zero_checks, no_gap, one, number_of, at_most};
 
 use crate::number::{bit, evaluated, truth};
 use crate::program::Body;
@@ -68,7 +68,7 @@ fn demanded(held: bool, number: Frac, item: u32) -> Result<Frac, StepFault>
 // The truth of the guard: 1 where its number is at most 0, and 0 where it is at least `eps`.
 fn guard(form: &Affine, eps: Frac, item: u32, values: &[Frac]) -> Result<Frac, StepFault>
     ensures value { IfOk result (λ r. r ≡ bit_of (at_most (value_of form.now (at values.now)) (whole 0))) }
-    ensures judged { Judged (form_fits (at values.now) item form.now ++ no_gap item eps (value_of form.now (at values.now))) result }
+    ensures judged { Judged (guard_checks (at values.now) item form.now eps) result }
 {
     match form_at(form, item, values) {
         Ok(number) => sided(number, eps, item),
@@ -93,7 +93,7 @@ fn sided(number: Frac, eps: Frac, item: u32) -> Result<Frac, StepFault>
 // The value of a form that is demanded to be at most 0.
 fn most(form: &Affine, item: u32, values: &[Frac]) -> Result<Frac, StepFault>
     ensures value { IfOk result (λ r. r ≡ value_of form.now (at values.now)) }
-    ensures judged { Judged (form_fits (at values.now) item form.now ++ one (at_most (value_of form.now (at values.now)) (whole 0)) (Must item)) result }
+    ensures judged { Judged (most_checks (at values.now) item form.now) result }
 {
     match form_at(form, item, values) {
         Ok(number) => demanded(number <= Frac::whole(0), number, item),
@@ -104,7 +104,7 @@ fn most(form: &Affine, item: u32, values: &[Frac]) -> Result<Frac, StepFault>
 // The value of a form that is demanded to be 0.
 fn zero(form: &Affine, item: u32, values: &[Frac]) -> Result<Frac, StepFault>
     ensures value { IfOk result (λ r. r ≡ value_of form.now (at values.now)) }
-    ensures judged { Judged (form_fits (at values.now) item form.now ++ one (equals (value_of form.now (at values.now)) (whole 0)) (Must item)) result }
+    ensures judged { Judged (zero_checks (at values.now) item form.now) result }
 {
     match form_at(form, item, values) {
         Ok(number) => demanded(number == Frac::whole(0), number, item),

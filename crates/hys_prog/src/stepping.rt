@@ -1,11 +1,11 @@
 ghost use Rattle.std.specs.Prelude.{◌≡◌, length, map, IfOk};
-ghost use Rattle.std.specs.List.{AllByRecursion};
-ghost use Rattle.hys_lin.specs.Sums.{Assignment, at};
+ghost use Rattle.hys_lin.specs.Sums.{at};
 ghost use Rattle.hys_prog.specs.Programs.{IsProgram};
 ghost use Rattle.hys_prog.specs.Orders.{IsOrder};
-ghost use Rattle.hys_prog.specs.Steps.{places, places_from, is_auxiliary, is_input, is_output, is_state};
-ghost use Rattle.hys_prog.specs.Stops.{IsStepped, IsValued, Judged, checks_along, numbers_in, stops};
-ghost use Rattle.hys_prog.specs.Walk.{Gives, IsPlaced, after_checks, exact, is_role, walk_checks};
+ghost use Rattle.hys_prog.specs.Steps.{places, is_auxiliary, is_input, is_output, is_state};
+ghost use Rattle.hys_prog.specs.Stops.{GivenWhere, IsStepped, Judged, JudgedByStops, part_checks, part_numbers};
+ghost use Rattle.hys_prog.specs.Fitting.{FittingStep};
+ghost use Rattle.hys_prog.specs.Walk.{ArePlaced, Gives, after_checks, exact, is_role, walk_checks};
 
 use crate::along::{defined, found, judge_demands};
 use crate::definition::definitions;
@@ -17,7 +17,8 @@ use std::alloc::{AllocError, Global};
 
 /// One step of the program from the values of its states and inputs, which stand in declaration
 /// order. Over the assignment that has these values and those of the definitions, in exact numbers,
-/// the answer is a legal step with the next values and the outputs.
+/// the answer is a legal step with the next values and the outputs, and there is one exactly where there
+/// is a legal step all of whose partial values fit.
 ///
 /// # Errors
 /// `Stop` with the first of these, and with none where none stands: a state and then an input
@@ -36,7 +37,8 @@ pub fn step(
     requires order { IsOrder program.now order.now }
     requires states { length state.now ≡ length (places is_state program.now) }
     requires inputs { length input.now ≡ length (places is_input program.now) }
-    ensures stop { (w : Assignment) → IsValued program.now state.now input.now w → Judged (stops program.now order.now w) result }
+    ensures stop { JudgedByStops program.now order.now state.now input.now result }
+    ensures legal { GivenWhere (FittingStep program.now state.now input.now) result }
     ensures done { IfOk result (λ r. IsStepped program.now state.now input.now r) }
 {
     walk(alloc, program, order, state, input)
@@ -75,8 +77,8 @@ fn after(
     places: &[usize],
     values: &[Frac],
 ) -> Result<Stepped, StepFault>
-    requires states { AllByRecursion (IsPlaced program.now.items places.now) (places_from 0 is_state program.now.names) }
-    requires outputs { AllByRecursion (IsPlaced program.now.items places.now) (places_from 0 is_output program.now.names) }
+    requires states { ArePlaced is_state program.now places.now }
+    requires outputs { ArePlaced is_output program.now places.now }
     ensures gives { IfOk result (λ r. Gives program.now (at values.now) r) }
     ensures judged { Judged (after_checks program.now values.now) result }
 {
@@ -107,9 +109,9 @@ fn numbers(
     part: Role,
     values: &[Frac],
 ) -> Result<Vec<Frac>, StepFault>
-    requires { AllByRecursion (IsPlaced program.now.items places.now) (places_from 0 (is_role part) program.now.names) }
-    ensures value { IfOk result (λ r. r.items ≡ numbers_in (at values.now) program.now.items (places_from 0 (is_role part) program.now.names)) }
-    ensures judged { Judged (checks_along (at values.now) program.now.items (places_from 0 (is_role part) program.now.names)) result }
+    requires { ArePlaced (is_role part) program.now places.now }
+    ensures value { IfOk result (λ r. r.items ≡ part_numbers (is_role part) program.now (at values.now)) }
+    ensures judged { Judged (part_checks (is_role part) program.now (at values.now)) result }
 {
     let names = places_of(alloc, program.names.items(), part)?;
     defined(alloc, program.items.items(), places, &names, values)

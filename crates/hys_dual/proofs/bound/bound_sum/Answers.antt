@@ -1,7 +1,6 @@
-use Rattle.std.proofs.Common.{rules, ◌≡◌, ◌∙◌, sym, ap, length, ◌++◌, Err}
+use Rattle.std.proofs.Common.{rules, ◌∙◌, sym, ap, length}
 use Rattle.hys_lin.specs.Ranges.{box_at}
 use Rattle.hys_lin.specs.Operations.{first_lost}
-use Rattle.hys_lin.proofs.Multiples.{answers_before}
 use Rattle.hys_relax.specs.BoundSum.{joined_to, coefficient_operations, constant_operations, end_operations, summed_coefficient, summed_constant}
 use Rattle.hys_dual.specs.Costs.{with_cost}
 use Rattle.hys_dual.proofs.Listing.{listed_long}

@@ -1,10 +1,8 @@
-use Rattle.std.proofs.Common.{◌≡◌, ◌<◌, ◌∷◌, ◌∙◌, ap, drop, ◌+◌}
+use Rattle.std.proofs.Common.{◌≡◌, ◌∷◌, drop, ◌+◌}
 use Rattle.hys_lin.specs.declared.form.Term.{Term}
 use Rattle.hys_lin.proofs.Summing.{value_next, lost_next}
-use Rattle.hys_number.specs.Ops.{◌+ₙ◌}
-use Rattle.hys_relax.specs.Bound.{weights}
 use Rattle.hys_relax.specs.LinearProgram.{factor_at}
-use Rattle.hys_dual.proofs.Summed.{pair_here, weights_here, lawful_next, lost_here, sum_ended, no_more}
+use Rattle.hys_dual.proofs.Summed.{pair_here, weights_here, lawful_next, sum_ended}
 use Rattle.hys_dual.proofs.bound.coefficient.Goals as goal
 
 pub loop-k-preserved : goal.loop-k-preserved

@@ -1,5 +1,4 @@
-use Rattle.std.proofs.Common.{rules, ◌≡◌, ◌∙◌, sym, ap, arith, length, Err}
-use Rattle.hys_lin.specs.Scaled.{AnswersLost}
+use Rattle.std.proofs.Common.{rules, ◌∙◌, sym, ap, arith, length}
 use Rattle.hys_relax.specs.BoundSum.{coefficient_operations, summed_coefficient}
 use Rattle.hys_dual.specs.Costs.{with_cost}
 use Rattle.hys_dual.proofs.Listing.{listed_next}

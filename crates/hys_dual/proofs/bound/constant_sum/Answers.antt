@@ -1,4 +1,4 @@
-use Rattle.std.proofs.Common.{◌≡◌, ◌<◌, ◌∷◌, ◌∙◌, ap, drop, ◌+◌}
+use Rattle.std.proofs.Common.{◌≡◌, ◌∷◌, drop, ◌+◌}
 use Rattle.hys_lin.specs.declared.form.Term.{Term}
 use Rattle.hys_relax.specs.LinearProgram.{row_at}
 use Rattle.hys_dual.proofs.Summed.{pair_here, weights_here, lawful_next, less_value_next, less_lost_next, less_ended}

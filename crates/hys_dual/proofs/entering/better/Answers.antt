@@ -1,4 +1,4 @@
-use Rattle.std.proofs.Common.{◌≡◌, subst, Some, None}
+use Rattle.std.proofs.Common.{subst, Some}
 use Rattle.hys_lin.specs.Ranges.{box_at}
 use Rattle.hys_relax.specs.LinearProgram.{linear_program}
 use Rattle.hys_tab.specs.Table.{tableau_of}

@@ -1,9 +1,8 @@
-use Rattle.std.proofs.Common.{◌≡◌, ◌<◌, ◌∙◌, ap, arith, length, slice_index_or}
+use Rattle.std.proofs.Common.{◌∙◌, ap, arith, length, slice_index_or}
 use Rattle.hys_lin.specs.Ranges.{box_at}
 use Rattle.hys_relax.specs.LinearProgram.{linear_program}
-use Rattle.hys_simplex.specs.Status.{is_raised_above}
 use Rattle.hys_tab.specs.Table.{tableau_of}
-use Rattle.hys_dual.specs.Standing.{end_in, ends_of}
+use Rattle.hys_dual.specs.Standing.{end_in}
 use Rattle.hys_dual.proofs.Listing.{listed_long}
 use Rattle.hys_dual.proofs.Comparing.{end_above, enters_where, enters_not}
 use Rattle.hys_dual.proofs.entering.may_enter.Goals as goal

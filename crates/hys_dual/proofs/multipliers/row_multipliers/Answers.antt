@@ -1,4 +1,4 @@
-use Rattle.std.proofs.Common.{rules, ◌≡◌, ◌∙◌, ap, sym, arith, ◌++◌, length}
+use Rattle.std.proofs.Common.{◌≡◌, ◌∙◌, ap, arith, ◌++◌, length}
 use Rattle.hys_relax.specs.LinearProgram.{linear_program}
 use Rattle.hys_simplex.specs.Tableau.{row_multiplier}
 use Rattle.hys_simplex.specs.Unfit.{pairs_to}

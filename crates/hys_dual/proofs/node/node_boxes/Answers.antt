@@ -1,7 +1,7 @@
-use Rattle.std.proofs.Common.{◌≡◌, ◌<◌, ◌≤◌, ◌-◌, ◌∙◌, suc, sym, subst, arith, length, drop, false, slice_index_or, refl}
+use Rattle.std.proofs.Common.{◌≡◌, ◌<◌, ◌-◌, ◌∙◌, suc, subst, arith, length, drop, false, slice_index_or, refl}
 use Rattle.std.proofs.lemmas.List.{length-set}
 use Rattle.hys_relax.specs.declared.fixing.Fixing.{Fixing}
-use Rattle.hys_dual.proofs.Nodes.{IsWrittenFrom, none_written, fixing_there, one_written}
+use Rattle.hys_dual.proofs.Nodes.{IsWrittenFrom, fixing_there, one_written}
 use Rattle.hys_dual.proofs.node.node_boxes.Goals as goal
 
 abbrev zero_fixing : Fixing

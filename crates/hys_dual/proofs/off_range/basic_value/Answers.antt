@@ -1,10 +1,8 @@
-use Rattle.std.proofs.Common.{◌≡◌, ◌<◌, ◌∙◌, ap, sym, arith, length, slice_index_or, subst}
-use Rattle.std.specs.Result.{result_err}
+use Rattle.std.proofs.Common.{◌∙◌, ap, sym, arith, length, slice_index_or}
 use Rattle.hys_lin.specs.Ranges.{box_at}
-use Rattle.hys_number.specs.Ops.{whole}
 use Rattle.hys_relax.specs.LinearProgram.{linear_program}
 use Rattle.hys_tab.specs.Table.{tableau_of}
-use Rattle.hys_dual.specs.Standing.{end_in, ends_of}
+use Rattle.hys_dual.specs.Standing.{end_in}
 use Rattle.hys_dual.proofs.Listing.{listed_long}
 use Rattle.hys_dual.proofs.Standings.{end_value_read}
 use Rattle.hys_dual.proofs.Values.{value_begins, value_next, value_lost}

@@ -1,7 +1,6 @@
-use Rattle.std.proofs.Common.{◌≡◌, ◌∙◌, ap₂, if◌then◌else◌}
+use Rattle.std.proofs.Common.{◌∙◌}
 use Rattle.hys_lin.specs.Ranges.{box_at}
 use Rattle.hys_relax.specs.LinearProgram.{linear_program}
-use Rattle.hys_simplex.specs.Status.{lower, upper, end_or}
 use Rattle.hys_tab.specs.Table.{tableau_of}
 use Rattle.hys_dual.specs.Standing.{end_in}
 use Rattle.hys_dual.proofs.Listing.{listed_next}

@@ -1,4 +1,4 @@
-use Rattle.std.proofs.Common.{◌≡◌, ◌∙◌, arith}
+use Rattle.std.proofs.Common.{arith}
 use Rattle.hys_relax.specs.LinearProgram.{linear_program}
 use Rattle.hys_tab.specs.Table.{tableau_of}
 use Rattle.hys_dual.proofs.Raising.{above_at, below_at, null_at, zero_next}

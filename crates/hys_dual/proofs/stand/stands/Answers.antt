@@ -1,4 +1,4 @@
-use Rattle.std.proofs.Common.{◌≡◌, arith, subst, length}
+use Rattle.std.proofs.Common.{arith, subst, length}
 use Rattle.hys_tab.specs.Table.{tableau_of}
 use Rattle.std.proofs.Common.{refl}
 use Rattle.hys_dual.proofs.Standings.{RowsStand, all_stand}
