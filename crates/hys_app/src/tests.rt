@@ -265,10 +265,7 @@ fn next_values(rt: HostRuntime) -> Result<(), Fail> {
             "x*2",
             "\"next\":[{\"constant\":\"0\",\"terms\":[[0,\"2\"]]}]",
         ),
-        (
-            "2*3",
-            "\"next\":[{\"constant\":\"6\",\"terms\":[]}]",
-        ),
+        ("2*3", "\"next\":[{\"constant\":\"6\",\"terms\":[]}]"),
         (
             "1000000*x",
             "\"next\":[{\"constant\":\"0\",\"terms\":[[0,\"1000000\"]]}]",
@@ -277,10 +274,7 @@ fn next_values(rt: HostRuntime) -> Result<(), Fail> {
             "0.5*x",
             "\"next\":[{\"constant\":\"0\",\"terms\":[[0,\"1/2\"]]}]",
         ),
-        (
-            "1e2",
-            "\"next\":[{\"constant\":\"100\",\"terms\":[]}]",
-        ),
+        ("1e2", "\"next\":[{\"constant\":\"100\",\"terms\":[]}]"),
         ("y", "old"),
         (
             "- -x",

@@ -167,7 +167,7 @@ pub lost_row_within : (p : Program) (boxes : List Interval) (X : Type 0) (r : Re
 unfolding Within
 lost_row_within p boxes X r fault k l ts e q j i =
     let b : k < length p.items = first_of_all (Within (length p.items)) (row_numbers p boxes) (record { item = k; what = l })
-        (items_within (length p.items) boxes (name_columns p) (length (front p)) 0 p.items (omega arith)) (lost_here (row_numbers p boxes) X r fault k l e q j) in
+    (items_within (length p.items) boxes (name_columns p) (length (front p)) 0 p.items (omega arith)) (lost_here (row_numbers p boxes) X r fault k l e q j) in
     subst (λ (us : List ProgItem). k < length us) (sym i) b
 
 pub by_row : (tolerance : Number) (text : List ℕ) (tokens : List Token) (tree : Source) (p : Program) (o : Order) (boxes : List Interval) (X : Type 0) (r : Result X BuildFault) (fault : BuildFault) (k : ℕ) (l : Lost) (ts : List ProgItem) (place : Place) (f : SourceFault) →

@@ -166,10 +166,7 @@ fn limit_on_tokens(rt: HostRuntime) -> Result<(), Fail> {
 #[test]
 fn limit_on_nesting(rt: HostRuntime) -> Result<(), Fail> {
     let alloc = rt.alloc();
-    for (count, wanted) in [
-        (64, Answer::System),
-        (65, Answer::Over(LimitKind::Nesting)),
-    ] {
+    for (count, wanted) in [(64, Answer::System), (65, Answer::Over(LimitKind::Nesting))] {
         let open = repeated(alloc, "(", count)?;
         let close = repeated(alloc, ")", count)?;
         let text = format!(in alloc;
@@ -298,8 +295,7 @@ const GUARD: &str =
 const OWN: &str =
     "SYSTEM g { INTERFACE { STATE { REAL x [0, 10]; } } IMPLEMENTATION { AUX { BOOL d; } AD { d = x >= 5 [1/2]; } CONTINUOUS { x = x; } } }";
 
-const THERMOSTAT: &str =
-    "SYSTEM thermostat {
+const THERMOSTAT: &str = "SYSTEM thermostat {
   INTERFACE {
     STATE { REAL T [-10, 60]; BOOL on; }
     INPUT { REAL amb [-10, 30]; }   // outside
@@ -355,7 +351,6 @@ const ROWS: [(&str, &str); 46] = [
         "SYSTEM h { INTERFACE { STATE { REAL x [0, 10]; } INPUT { BOOL a; } } IMPLEMENTATION { AUX { BOOL d; } LOGIC { d = a & x <= 4; } CONTINUOUS { x = x; } } }",
         "4 columns, 6 rows",
     ),
-
     (
         "SYSTEM t { INTERFACE { STATE {\nREAL x [0, 1], x [0, 1]; } } IMPLEMENTATION { } }",
         "5 2:16",
@@ -554,10 +549,7 @@ fn long_chain(rt: HostRuntime) -> Result<(), Fail> {
 #[test]
 fn limit_on_names(rt: HostRuntime) -> Result<(), Fail> {
     let alloc = rt.alloc();
-    for (count, wanted) in [
-        (200, Answer::System),
-        (201, Answer::Over(LimitKind::Names)),
-    ] {
+    for (count, wanted) in [(200, Answer::System), (201, Answer::Over(LimitKind::Names))] {
         let mut names = String::new(alloc);
         for number in 0..count {
             let name = format!(in alloc; "BOOL a{number}; ")?;
