@@ -5,3 +5,4 @@
 pub mod Ends
 pub mod Compiling
 pub mod Consequences
+pub mod Tolerances

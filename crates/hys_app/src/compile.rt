@@ -1,10 +1,11 @@
 ghost use Rattle.std.specs.Prelude.{◌≡◌, ◌≢◌, ◌≤◌, length, IfOk};
 ghost use Rattle.hys_sys.specs.declared.system.System.{System as Matrices};
+ghost use Rattle.hys_number.specs.Ops.{◌<ₙ◌, whole};
 ghost use Rattle.hys_compile.specs.Faults.{no_memory};
-ghost use Rattle.hys_compile.specs.Text.{most_bytes, IsCause, IsCompiled, IsPlainText};
+ghost use Rattle.hys_compile.specs.Text.{most_bytes};
 ghost use Rattle.hys_app.specs.Lines.{read_line, refused_line};
 ghost use Rattle.hys_app.specs.Ends.{IsReached};
-ghost use Rattle.hys_app.specs.Compiling.{saying, IsCompileOutcome, IsJudged, IsPutFor};
+ghost use Rattle.hys_app.specs.Compiling.{saying, IsCompileOutcome, IsTextJudged, IsPutFor};
 ghost use Rattle.hys_app.specs.declared.status.Status.TheVariants.{Read, Source};
 
 use crate::Status;
@@ -12,6 +13,7 @@ use crate::lines::{describe_refusal, describe_system, describe_unread};
 use crate::outcome::{NewFile, Outcome};
 use hys_base::{List, Text};
 use hys_compile::{Detail, LimitKind, MOST_BYTES, SourceFault, compile};
+use hys_frac::Frac;
 use hys_io::{Files, ReadFault, read_all};
 use hys_sys::{System, write_system};
 use std::alloc::{AllocError, Global};
@@ -57,12 +59,18 @@ fn report_system(alloc: Global, system: &System, target: &str) -> Result<Outcome
 
 // Compiles the text of a source.
 #[tactic(auto, using(crate::proofs::Compiling::compiled_of))]
-fn conclude_text(alloc: Global, text: &[u8], target: &str) -> Result<Outcome, AllocError>
-    requires { length text.now ≤ most_bytes }
-    ensures { IfOk result (IsJudged (IsCause text.now) (IsCompiled text.now) (IsPlainText text.now) target.now) }
+fn conclude_text(
+    alloc: Global,
+    text: &[u8],
+    target: &str,
+    tolerance: Frac,
+) -> Result<Outcome, AllocError>
+    requires tolerance { whole 0 <ₙ tolerance }
+    requires short { length text.now ≤ most_bytes }
+    ensures { IfOk result (IsTextJudged tolerance text.now target.now) }
 {
-    match compile(alloc, text) {
-        Ok(system) => report_system(alloc, &system, target),
+    match compile(alloc, text, tolerance) {
+        Ok(compiled) => report_system(alloc, &compiled.system, target),
         Err(fault) => report_refusal(alloc, &fault),
     }
 }
@@ -73,10 +81,12 @@ pub fn conclude_compile<F: Files>(
     alloc: Global,
     source: &str,
     target: &str,
+    tolerance: Frac,
     files: &mut F,
 ) -> Result<Outcome, AllocError>
+    requires { whole 0 <ₙ tolerance }
     ensures reached { IfOk result (λ o.
-        IsReached (IsCompileOutcome (F.held files.old) source.now target.now) o (F.read_faults files.old)
+        IsReached (IsCompileOutcome tolerance (F.held files.old) source.now target.now) o (F.read_faults files.old)
         (F.read_faults files.new)) }
     ensures reads { F.read_faults files.old ≤ F.read_faults files.new }
     ensures held { F.held files.new ≡ F.held files.old }
@@ -86,6 +96,6 @@ pub fn conclude_compile<F: Files>(
         Err(ReadFault::Fault) => report_unread(alloc, source),
         Err(ReadFault::TooLong) => report_refusal(alloc, &SourceFault::over(LimitKind::Bytes)),
         Err(ReadFault::Memory) => Err(AllocError),
-        Ok(text) => conclude_text(alloc, &text, target),
+        Ok(text) => conclude_text(alloc, &text, target, tolerance),
     }
 }

@@ -93,6 +93,33 @@ fn statuses(rt: HostRuntime) -> Result<(), Fail> {
             USAGE,
             b"old",
         ),
+        (
+            ["compile", "b.hys", "b.json", "eps=-1"].as_slice(),
+            INTEGRATOR,
+            0,
+            0,
+            Status::Usage,
+            USAGE,
+            b"old",
+        ),
+        (
+            ["compile", "b.hys", "b.json", "1/2"].as_slice(),
+            INTEGRATOR,
+            0,
+            0,
+            Status::Usage,
+            USAGE,
+            b"old",
+        ),
+        (
+            ["compile", "b.hys", "b.json", "eps=1/2"].as_slice(),
+            INTEGRATOR,
+            0,
+            0,
+            Status::Done,
+            DONE,
+            MATRIX,
+        ),
         ([].as_slice(), INTEGRATOR, 0, 1, Status::Write, b"", b"old"),
     ];
     for (given, source, call, write, status, printed, target) in rows {
@@ -147,8 +174,8 @@ fn refusals(rt: HostRuntime) -> Result<(), Fail> {
             "source refused: 4 syntax at 3:12\n",
         ),
         (
-            "SYSTEM v { INTERFACE { PARAMETER { } } IMPLEMENTATION { } }",
-            "source refused: 19 not yet at 1:24\n",
+            "SYSTEM t { INTERFACE { STATE { REAL x [0, 9223372036854775807]; } } IMPLEMENTATION { AUX { BOOL d; } AD {\nd = x >= 5; } CONTINUOUS { x = x; } } }",
+            "source refused: 17 range at 2:1: -9223372036854775802 - 1/1000\n",
         ),
         (
             "SYSTEM t { INTERFACE { STATE { REAL x [3, 2]; } } IMPLEMENTATION { CONTINUOUS { x = x; } } }",
@@ -168,16 +195,38 @@ fn refusals(rt: HostRuntime) -> Result<(), Fail> {
     Ok(())
 }
 
-// What stands under `b.json` after this source was compiled.
-fn compiled(alloc: Global, source: &str) -> Result<String, AllocError> {
+// What stands under `b.json` after a run with these words over this source.
+fn put(alloc: Global, given: &[&str], source: &str) -> Result<String, AllocError> {
     let mut files = files(alloc, source, 0)?;
     let mut out = MemSink::new(alloc, Vec::new(alloc));
-    let given = words(alloc, &["compile", "b.hys", "b.json"])?;
+    let given = words(alloc, given)?;
     run(alloc, &given, &mut files, &mut out);
     match str::from_utf8(files.get("b.json").unwrap_or(b"none")) {
         Ok(text) => String::from_str(alloc, text),
         Err(_) => String::from_str(alloc, "not text"),
     }
+}
+
+// What stands under `b.json` after this source was compiled.
+fn compiled(alloc: Global, source: &str) -> Result<String, AllocError> {
+    put(alloc, &["compile", "b.hys", "b.json"], source)
+}
+
+#[test]
+fn tolerances(rt: HostRuntime) -> Result<(), Fail> {
+    let alloc = rt.alloc();
+    let source =
+        "SYSTEM g { INTERFACE { STATE { REAL x [0, 10]; } } IMPLEMENTATION { AUX { BOOL d; } AD { d = x >= 5; } CONTINUOUS { x = x; } } }";
+    let usual =
+        "\"rows\":[{\"bound\":\"0\",\"item\":\"d\",\"terms\":[[0,\"-1\"],[1,\"5\"]]},{\"bound\":\"4999/1000\",\"item\":\"d\",\"terms\":[[0,\"1\"],[1,\"-5001/1000\"]]}]";
+    let half = "{\"bound\":\"9/2\",\"item\":\"d\",\"terms\":[[0,\"1\"],[1,\"-11/2\"]]}]";
+    let text = compiled(alloc, source)?;
+    assert!(rt; text.as_str().contains(usual), "{text}");
+    for word in ["eps=1/2", "eps=+0.5", "eps=5e-1"] {
+        let text = put(alloc, &["compile", "b.hys", "b.json", word], source)?;
+        assert!(rt; text.as_str().contains(half), "{word}: {text}");
+    }
+    Ok(())
 }
 
 #[test]
@@ -204,18 +253,42 @@ fn next_values(rt: HostRuntime) -> Result<(), Fail> {
             "-x + 999999*u",
             "\"next\":[{\"constant\":\"0\",\"terms\":[[0,\"-1\"],[1,\"999999\"]]}]",
         ),
-        ("x + x", "old"),
-        ("1 + x + 2", "old"),
-        ("x*2", "old"),
-        ("2*3", "old"),
-        ("1000000*x", "old"),
-        ("0.5*x", "old"),
-        ("1e2", "old"),
+        (
+            "x + x",
+            "\"next\":[{\"constant\":\"0\",\"terms\":[[0,\"2\"]]}]",
+        ),
+        (
+            "1 + x + 2",
+            "\"next\":[{\"constant\":\"3\",\"terms\":[[0,\"1\"]]}]",
+        ),
+        (
+            "x*2",
+            "\"next\":[{\"constant\":\"0\",\"terms\":[[0,\"2\"]]}]",
+        ),
+        ("2*3", "\"next\":[{\"constant\":\"6\",\"terms\":[]}]"),
+        (
+            "1000000*x",
+            "\"next\":[{\"constant\":\"0\",\"terms\":[[0,\"1000000\"]]}]",
+        ),
+        (
+            "0.5*x",
+            "\"next\":[{\"constant\":\"0\",\"terms\":[[0,\"1/2\"]]}]",
+        ),
+        ("1e2", "\"next\":[{\"constant\":\"100\",\"terms\":[]}]"),
         ("y", "old"),
-        ("- -x", "old"),
-        ("+x", "old"),
+        (
+            "- -x",
+            "\"next\":[{\"constant\":\"0\",\"terms\":[[0,\"1\"]]}]",
+        ),
+        (
+            "+x",
+            "\"next\":[{\"constant\":\"0\",\"terms\":[[0,\"1\"]]}]",
+        ),
         ("x +", "old"),
-        ("(x)", "old"),
+        (
+            "(x)",
+            "\"next\":[{\"constant\":\"0\",\"terms\":[[0,\"1\"]]}]",
+        ),
         ("", "old"),
         ("2x", "old"),
         ("x; x = u", "old"),

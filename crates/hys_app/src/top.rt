@@ -1,4 +1,5 @@
 ghost use Rattle.std.specs.Prelude.{◌≡◌, ◌≤◌, List, ℕ, Some, None, map, string_bytes, IfOk};
+ghost use Rattle.hys_number.specs.Number.{Number};
 ghost use Rattle.hys_app.specs.Words.{form_of};
 ghost use Rattle.hys_app.specs.Ends.{outside, Ends, IsReached};
 ghost use Rattle.hys_app.specs.Compiling.{IsCompileOutcome, IsUsage};
@@ -30,8 +31,8 @@ fn conclude<F: Files>(alloc: Global, words: &[String], files: &mut F) -> Result<
     ensures no_form { form_of (map string_bytes words.now) ≡ None →
         IfOk result (λ o. IsReached IsUsage o (F.read_faults files.old) (F.read_faults files.new)) }
     ensures unread { form_of (map string_bytes words.now) ≡ None → F.read_faults files.new ≡ F.read_faults files.old }
-    ensures compile { (source target : List ℕ) → form_of (map string_bytes words.now) ≡ Some (source, target) →
-        IfOk result (λ o. IsReached (IsCompileOutcome (F.held files.old) source target) o
+    ensures compile { (source target : List ℕ) (tolerance : Number) → form_of (map string_bytes words.now) ≡ Some (source, target, tolerance) →
+        IfOk result (λ o. IsReached (IsCompileOutcome tolerance (F.held files.old) source target) o
         (F.read_faults files.old) (F.read_faults files.new)) }
     ensures reads { F.read_faults files.old ≤ F.read_faults files.new }
     ensures held { F.held files.new ≡ F.held files.old }
@@ -39,14 +40,18 @@ fn conclude<F: Files>(alloc: Global, words: &[String], files: &mut F) -> Result<
 {
     match compile_form(words) {
         None => report_usage(alloc),
-        Some((source, target)) => conclude_compile(alloc, source, target, files),
+        Some((source, target, tolerance)) => {
+            conclude_compile(alloc, source, target, tolerance, files)
+        }
     }
 }
 
 /// Does what the words after the program's name say, and answers how that ended.
 ///
-/// The one form is `compile SRC MLD`: it reads the source SRC, puts the matrix text of its system
-/// under MLD, and prints a line that counts the columns and rows. The clauses speak of what the
+/// The one form is `compile SRC MLD`, which may end in `eps=F`: it reads the source SRC, puts the
+/// matrix text of its system under MLD, and prints a line that counts the columns and rows. The
+/// number F, which is 1/1000 where no word says it, is the tolerance of each guard without one of
+/// its own. The clauses speak of what the
 /// files hold and what is printed where the files and the sink tell it.
 #[tactic(auto, using(crate::proofs::Ends::by_unmade, crate::proofs::Ends::by_reached))]
 pub fn run<F: Files, S: Sink>(
@@ -61,9 +66,10 @@ pub fn run<F: Files, S: Sink>(
     ensures unread { form_of (map string_bytes words.now.items) ≡ None →
         F.read_faults files.new ≡ F.read_faults files.old }
 
-    // `compile SRC MLD`.
-    ensures compile { (source target : List ℕ) → form_of (map string_bytes words.now.items) ≡ Some (source, target) →
-        Ends (IsCompileOutcome (F.held files.old) source target) result
+    // `compile SRC MLD`, and `compile SRC MLD eps=F`.
+    ensures compile { (source target : List ℕ) (tolerance : Number) →
+        form_of (map string_bytes words.now.items) ≡ Some (source, target, tolerance) →
+        Ends (IsCompileOutcome tolerance (F.held files.old) source target) result
         (outside F.Files S.Sink files.old out.old) (outside F.Files S.Sink files.new out.new) }
 {
     match conclude(alloc, words, files) {

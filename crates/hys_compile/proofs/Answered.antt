@@ -1,20 +1,29 @@
 -- What an answer says of the causes of its text.
 use Rattle.std.proofs.Common.{◌≡◌, ◌⊎◌, ℕ, List, Result, Ok, Err, IfOk, IfErr, inl, inr}
 use Rattle.std.specs.Result.{IsErrAnd}
-use Rattle.hys_sys.specs.declared.system.System.{System}
+use Rattle.hys_number.specs.Number.{Number}
+use Rattle.hys_compile.specs.declared.compiler.Compiled.{Compiled}
 use Rattle.hys_compile.specs.declared.fault.SourceFault.{SourceFault}
 use Rattle.hys_compile.specs.Faults.{no_memory}
-use Rattle.hys_compile.specs.Text.{IsCause, IsRefusal, IsSameCause, IsCompiled, IsPlainText}
+use Rattle.hys_compile.specs.Text.{IsCause, IsCompilable, IsCompiled, IsRefusal, IsSameCause}
+
+compiled_compilable : (tolerance : Number) (text : List ℕ) (c : Compiled) → IsCompiled tolerance text c → IsCompilable tolerance text
+compiled_compilable tolerance text c h = record { tokens = h.tokens; tree = h.tree; measured = h.measured; accepted = h.accepted; fit = h.fit }
 
 -- a cause of the text is the fault that is answered, or shows another circular list, memory aside
-pub exactly : (text : List ℕ) (r : Result System SourceFault) (f : SourceFault) → ((f g : SourceFault) → IsCause text f → IsCause text g → IsSameCause text f g) → ((f : SourceFault) → IsPlainText text → IsCause text f → ⊥) →
-    IfOk r (IsCompiled text) → IfErr r (IsRefusal text) → IsCause text f → IsErrAnd r (λ g. (g ≡ no_memory) ⊎ IsSameCause text g f)
-exactly text (Ok system) f one none c h cause = absurd (none f (record { tokens = c.tokens; tree = c.tree; measured = c.measured; plain = c.plain }) cause)
-exactly text (Err g) f one none c (inl e) cause = inl e
-exactly text (Err g) f one none c (inr h) cause = inr (one g f h cause)
+pub exactly : (tolerance : Number) (text : List ℕ) (r : Result Compiled SourceFault) (f : SourceFault) → ((f g : SourceFault) → IsCause tolerance text f → IsCause tolerance text g → IsSameCause text f g) →
+    ((f : SourceFault) → IsCompilable tolerance text → IsCause tolerance text f → ⊥) → IfOk r (IsCompiled tolerance text) → IfErr r (IsRefusal tolerance text) → IsCause tolerance text f → IsErrAnd r (λ g. (g ≡ no_memory) ⊎ IsSameCause text g f)
+exactly tolerance text (Ok c) f one none h k cause = absurd (none f (compiled_compilable tolerance text c h) cause)
+exactly tolerance text (Err g) f one none h (inl e) cause = inl e
+exactly tolerance text (Err g) f one none h (inr k) cause = inr (one g f k cause)
 
--- a plain text is refused for want of memory alone
-pub only_memory : (text : List ℕ) (r : Result System SourceFault) → ((f : SourceFault) → IsPlainText text → IsCause text f → ⊥) → IfErr r (IsRefusal text) → IsPlainText text → IfErr r (λ f. f ≡ no_memory)
-only_memory text (Ok system) none h plain = tt
-only_memory text (Err f) none (inl e) plain = e
-only_memory text (Err f) none (inr h) plain = absurd (none f plain h)
+-- a text that can be compiled is refused for want of memory alone
+pub only_memory : (tolerance : Number) (text : List ℕ) (r : Result Compiled SourceFault) → ((f : SourceFault) → IsCompilable tolerance text → IsCause tolerance text f → ⊥) → IfErr r (IsRefusal tolerance text) → IsCompilable tolerance text → IfErr r (λ f. f ≡ no_memory)
+only_memory tolerance text (Ok c) none h k = tt
+only_memory tolerance text (Err f) none (inl e) k = e
+only_memory tolerance text (Err f) none (inr h) k = absurd (none f k h)
+
+-- what is compiled can be compiled
+pub is_compilable : (tolerance : Number) (text : List ℕ) (r : Result Compiled SourceFault) → IfOk r (IsCompiled tolerance text) → IfOk r (λ c. IsCompilable tolerance text)
+is_compilable tolerance text (Ok c) h = compiled_compilable tolerance text c h
+is_compilable tolerance text (Err f) h = tt

@@ -121,8 +121,8 @@ circle_below p r fault js is xs e q h i n =
     subst (λ (ys : List ProgName). Below (length ys) is) (sym n) (subst (λ (ks : List ℕ). Below (length p.names) ks) (sym i) (all_below p js (circle_of p r fault js e q h).0))
 
 pub by_cycle : (text : List ℕ) (tokens : List Token) (tree : Source) (p : Program) (r : Result Order OrderFault) (fault : OrderFault) (js is : List ℕ) (xs : List ProgName) (f : SourceFault) →
-    r ≡ Err fault → fault ≡ Cycle js → Ordered p r → is ≡ js → xs ≡ p.names → f ≡ circle_fault (map (text_at xs) is) → IsTyped text tokens tree → IsProgramOf tree p → IsRefusal text f
-by_cycle text tokens tree p r fault js is xs f e q h i n s typed tr =
+    r ≡ Err fault → fault ≡ Cycle js → Ordered p r → is ≡ js → xs ≡ p.names → f ≡ circle_fault (map (text_at xs) is) → IsTyped text tokens tree → IsProgramOf tree p → (tolerance : Number) → IsRefusal tolerance text f
+by_cycle text tokens tree p r fault js is xs f e q h i n s typed tr tolerance =
     let k = keeps_typing text tokens tree typed in
     let c = circle_of p r fault js e q h in
     let m = circle_texts tr.tolerance (unfolded tree) p tr.translation k.declared k.typed (unfolded_declared tree (measured_declarations text tokens tree typed.measured)) js c.0 in

@@ -1,23 +1,12 @@
 -- Notes on how this crate is proved: forms that worked, and traps.
--- - The system of the parts is first `system_with name states inputs next`; three `ap`s over `PartsOf` turn
---   `system_of p` into `built s p.next`, which speaks of the source's names alone. All else is proved of that, and
---   one `subst` brings it back.
--- - One record for a name (`IsPlainName`: state or input, real, box) and one for a declaration, each taken from
---   the long `&&` once by `and_parts` from the right (`&&` groups to the left). A part with neither states nor
---   inputs is `IsOther part = (part State ≡ false) × (part Input ≡ false)`, proved by `(refl, refl)` at each use:
---   no outputs, parameters or auxiliaries in one lemma.
--- - A list under `filter`: one helper over the test's value `(b : Bool)` and `cond b (n ∷ ns) ns`, called at `part
---   n.section`; no case of a section is seen. `Differ (columns ns)` from names that differ is such a lemma with
---   two tests that aren't both true, and `differ_inserted` for a text in the middle.
--- - The assignment of a solution is `beside texts numbers`; that it gives back the numbers is `map (beside ms vs)
---   ms ≡ vs`, and `both_parts` cuts the equation of two joined lists in two.
--- - That each name's item is the only one: `first_value` over the items, `at_most_one` by the count, and the
---   quantifier over names moved inside the list (`each_of`), so that each item is asked of its own name.
--- - A match on an item's section: prove the fact at `section.Continuous` over plain variables and `subst` along
---   `section_of`; definitions that end in `Case _ w n _ = Unit` compute there without a case on the right side.
+-- - What is answered before rows are looked for is a refusal at every tolerance: the stages have no tolerance, and
+--   their lemmas take it last, so that `using(..)` proves `IfErr result (IsEarlyRefusal text)` with no file.
+-- - That something of a translation doesn't depend on where formulas lie in memory: a function on body trees beside
+--   it, equal to it by `refl` in each of the eleven cases, and then an induction over two lists of items with the same
+--   trees (Rows). Names that are equal go by one `ap` over a program made of its parts.
+-- - The automaton of a program is that of its source: the names of a part on either side are two filters over lists
+--   that go one by one, so one lemma with what is shown of a name as a parameter (Translated.kept).
 -- - Laws in `src/laws.rt` with named clauses are answered by `returns-clause-NAME c = lemma`, or by one record.
--- - Trap: `++` groups to the left: `a ++ b ++ [] ++ []` is `((a ++ b) ++ []) ++ []`, so the equation wants
---   `append-nil` at the whole front, once for each.
 -- - Trap: A `where` helper can't call the lemma that it stands in: pass the call as a function of its premise.
 -- - Causes as one `data` over the fault, a constructor for each cause, and for each a lemma `by_..` that takes `f
 --   ≡ fault_at n place` beside the facts; named by `using(..)` on the function, they prove all branches with no
@@ -32,26 +21,16 @@
 -- - A stand-in of a crate below whose body only answers want of memory, with the settled contract, lets the crates
 --   above be proved before it is.
 pub mod Causes
-pub mod Plain
-pub mod Few
+pub mod Rows
 pub mod Stages
-pub mod Texts
-pub mod Declared
-pub mod Lawful
-pub mod Items
-pub mod Boxes
-pub mod Exactly
+pub mod Only
 pub mod Accepting
-pub mod Compiled
 pub mod Answered
-pub mod Weighing
+pub mod Translated
 pub mod WrittenParts
 pub mod Readable
-pub mod PlainSums
-pub mod Usual
-pub mod Faultless
 pub mod OneList
-pub mod PlainOrders
 pub mod GuardSizes
 pub mod Circles
 pub mod Unfit
+pub mod Compiling

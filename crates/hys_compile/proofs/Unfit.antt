@@ -1,6 +1,7 @@
 -- From the first number of the intervals that doesn't fit to the fault that shows it.
 use Rattle.std.proofs.Common.{◌≡◌, ℕ, zero, suc, ◌<◌, List, [], ◌∷◌, ◌++◌, Some, Bool, true, false, cond, length, get_or, refl, sym, ◌∙◌, ap, subst, arith, inr, ◌⊎◌, inl, Result, Ok, Err}
 use Rattle.std.specs.List.{AllByRecursion}
+use Rattle.hys_number.specs.Number.{Number}
 use Rattle.hys_number.specs.Ops.{fits}
 use Rattle.hys_lin.specs.declared.form.Interval.{Interval}
 use Rattle.hys_lin.specs.declared.lost.Lost.{Lost}
@@ -39,14 +40,14 @@ one_place (i ∷ is) zero p q a b = sym a ∙ b
 one_place (i ∷ is) (suc k) p q a b = one_place is k p q a b
 
 -- ---- each number is one of an item
-all_joined : {A : Type 0} (P : A → Type 0) (xs ys : List A) → AllByRecursion P xs → AllByRecursion P ys → AllByRecursion P (xs ++ ys)
+pub all_joined : {A : Type 0} (P : A → Type 0) (xs ys : List A) → AllByRecursion P xs → AllByRecursion P ys → AllByRecursion P (xs ++ ys)
 all_joined P [] ys h k = k
 all_joined P (x ∷ xs) ys h k = (h.0, all_joined P xs ys h.1 k)
 
-Within : ℕ → Placed → Type 0
+unfoldable pub Within : ℕ → Placed → Type 0
 Within n c = c.item < n
 
-all_within : (n k : ℕ) (os : List Lost) → k < n → AllByRecursion (Within n) (all_at k os)
+pub all_within : (n k : ℕ) (os : List Lost) → k < n → AllByRecursion (Within n) (all_at k os)
 unfolding Within
 all_within n k [] h = tt
 all_within n k (o ∷ os) h = (h, all_within n k os h)
@@ -72,7 +73,7 @@ along_within ts [] boxes = tt
 along_within ts (n ∷ ns) boxes =
     all_joined (Within (length ts)) (numbers_here ts n boxes) (numbers_along ts ns (with_interval ts n boxes)) (here_within boxes ts (place_in ts n)) (along_within ts ns (with_interval ts n boxes))
 
-first_of_all : (P : Placed → Type 0) (cs : List Placed) (c : Placed) → AllByRecursion P cs → first_unfit cs ≡ Some c → P c
+pub first_of_all : (P : Placed → Type 0) (cs : List Placed) (c : Placed) → AllByRecursion P cs → first_unfit cs ≡ Some c → P c
 first_of_all P [] c h e = absurd (cc)
 first_of_all P (x ∷ cs) c h e = go (fits (outcome x.what)) e (first_of_all P cs c h.1)
   where
@@ -81,7 +82,7 @@ first_of_all P (x ∷ cs) c h e = go (fits (outcome x.what)) e (first_of_all P c
     go false e f = let s : x ≡ c = cc in subst P s h.0
 
 -- ---- items of a translation stand where those of the source do
-stands_at : (c : Setting) (is : List Item) (ts : List ProgItem) (k : ℕ) (p : Place) → OneByOne (IsItemOf c) is ts → ItemAt ts k (λ t. t.place ≡ p) → StandsAt is k p
+pub stands_at : (c : Setting) (is : List Item) (ts : List ProgItem) (k : ℕ) (p : Place) → OneByOne (IsItemOf c) is ts → ItemAt ts k (λ t. t.place ≡ p) → StandsAt is k p
 stands_at c [] [] k p h a = absurd a
 stands_at c [] (t ∷ ts) k p h a = absurd h
 stands_at c (i ∷ is) [] k p h a = absurd h
@@ -110,8 +111,8 @@ lost_within p o X r fault k l ts e q j i =
     subst (λ (us : List ProgItem). k < length us) (sym i) b
 
 pub by_interval : (text : List ℕ) (tokens : List Token) (tree : Source) (p : Program) (o : Order) (X : Type 0) (r : Result X BoundFault) (fault : BoundFault) (k : ℕ) (l : Lost) (ts : List ProgItem) (place : Place) (f : SourceFault) →
-    r ≡ Err fault → fault ≡ Range k l → Judged (range_numbers p o) r → ts ≡ p.items → ItemAt ts k (λ t. t.place ≡ place) → f ≡ range_fault place l → IsOrdered text tokens tree → IsProgramOf tree p → IsOrder p o → IsRefusal text f
-by_interval text tokens tree p o X r fault k l ts place f e q j i a s h t d =
+    r ≡ Err fault → fault ≡ Range k l → Judged (range_numbers p o) r → ts ≡ p.items → ItemAt ts k (λ t. t.place ≡ place) → f ≡ range_fault place l → IsOrdered text tokens tree → IsProgramOf tree p → IsOrder p o → (tolerance : Number) → IsRefusal tolerance text f
+by_interval text tokens tree p o X r fault k l ts place f e q j i a s h t d tolerance =
     let stands = stands_at (setting t.tolerance (unfolded tree)) (unfolded tree).items p.items k place t.translation.items (subst (λ (us : List ProgItem). ItemAt us k (λ t. t.place ≡ place)) i a) in
-    inr (subst (IsCause text) (sym s) (interval tokens tree (range_numbers p o) (record { item = k; what = l }) place h
+    inr (subst (IsCause tolerance text) (sym s) (interval tokens tree (range_numbers p o) (record { item = k; what = l }) place h
     (record { program = p; order = o; translation = t; ordered = d; same = refl }) (lost_here (range_numbers p o) X r fault k l e q j) stands))

@@ -2,20 +2,13 @@
 use Rattle.std.specs.Prelude.{List, map, filter, Bool}
 use Rattle.hys_number.specs.Number.{Number}
 use Rattle.hys_ast.specs.declared.source.Section.{Section}
-use Rattle.hys_ast.specs.declared.source.Kind.{Kind}
-use Rattle.hys_ast.specs.declared.source.Kind.TheVariants as source
 use Rattle.hys_ast.specs.Tree.{Source}
 use Rattle.hys_meaning.specs.Unfolded.{unfolded}
 use Rattle.hys_meaning.specs.Names.{Name, names, is_state, is_input, is_auxiliary, is_output}
 use Rattle.hys_meaning.specs.Steps.{Legal}
-use Rattle.hys_sys.specs.declared.system.Kind2.{Kind2}
-use Rattle.hys_sys.specs.declared.system.Kind2.TheVariants as kind
 use Rattle.hys_sys.specs.declared.system.System.{System}
+use Rattle.hys_exact.specs.Automata.{kind_of}
 use Rattle.hys_sys.specs.Exact.{Automaton, Boxed, Variable, Exact}
-
-abbrev pub kind_of : Kind → Kind2
-kind_of source.Real = kind.Real
-kind_of source.Bool = kind.Bool
 
 abbrev pub boxed_of : Name → Boxed
 boxed_of n = record { name = n.text; kind = kind_of n.kind; box = record { low = n.low; high = n.high } }

@@ -17,16 +17,20 @@ use Rattle.hys_meaning.specs.Weight.{weight}
 use Rattle.hys_parse.specs.Depth.{IsShallow, IsFirstDeep}
 use Rattle.hys_parse.specs.Cause.{IsUngrammatical}
 use Rattle.hys_type.specs.Checks.{fault_of}
+use Rattle.hys_type.specs.Translation.{IsTranslation}
 use Rattle.hys_type.specs.declared.fault.TypeFault.{TypeFault}
-use Rattle.hys_bound.specs.Ranges.{Placed, first_unfit}
-use Rattle.hys_plain.specs.Plain.{IsPlain, unbuilt_place}
+use Rattle.hys_prog.specs.Programs.{IsProgram}
+use Rattle.hys_prog.specs.Orders.{IsOrder}
+use Rattle.hys_bound.specs.Ranges.{Placed, intervals, first_unfit}
+use Rattle.hys_exact.specs.Built.{IsBuilt}
+use Rattle.hys_mld.specs.Stated.{AreStated}
 use Rattle.hys_sys.specs.System.{IsSystem}
-use Rattle.hys_sys.specs.declared.system.System.{System}
 use Rattle.hys_compile.specs.Automaton.{IsExactFor}
+use Rattle.hys_compile.specs.declared.compiler.Compiled.{Compiled}
 use Rattle.hys_compile.specs.declared.fault.SourceFault.{SourceFault}
 use Rattle.hys_compile.specs.declared.number.TheConstants as number
 use Rattle.hys_compile.specs.Faults.{fault_at, over_limit, no_memory, shown, circle_fault, range_fault}
-use Rattle.hys_compile.specs.Sources.{BeginsWithFirst, StandsAt, AreRangeNumbers}
+use Rattle.hys_compile.specs.Sources.{BeginsWithFirst, StandsAt, AreRangeNumbers, AreRowNumbers, NumbersFit}
 use Rattle.hys_compile.specs.declared.fault.LimitKind.TheVariants as limit
 
 -- ---- the limits
@@ -82,19 +86,20 @@ pub record IsRanged (text : List ℕ) (tokens : List Token) (tree : Source) : Ty
   pub ranges : AreRangeNumbers tree numbers
   pub fit : first_unfit numbers ≡ None
 
--- the text of an accepted source
-pub record IsAcceptedText (text : List ℕ) : Type 0 where
+-- and the numbers of its rows fit, at the tolerance of guards without one of their own
+pub record IsRowed (tolerance : Number) (text : List ℕ) (tokens : List Token) (tree : Source) : Type 0 where
+  pub ranged : IsRanged text tokens tree
+  pub numbers : List Placed
+  pub rows : AreRowNumbers tolerance tree numbers
+  pub fit : first_unfit numbers ≡ None
+
+-- the text of an accepted source, all of whose numbers fit at the tolerance
+pub record IsCompilable (tolerance : Number) (text : List ℕ) : Type 0 where
   pub tokens : List Token
   pub tree : Source
   pub measured : IsMeasured text tokens tree
   pub accepted : Accepted tree
-
--- the text of a plain source
-pub record IsPlainText (text : List ℕ) : Type 0 where
-  pub tokens : List Token
-  pub tree : Source
-  pub measured : IsMeasured text tokens tree
-  pub plain : IsPlain tokens tree
+  pub fit : NumbersFit tolerance tree
 
 -- ---- faults
 -- where token k begins, and the end of the text where there is no such token
@@ -111,44 +116,64 @@ pub record IsCircle (text : List ℕ) (fault : SourceFault) : Type 0 where
   pub first : BeginsWithFirst (names (unfolded tree)) circle
   pub shown_is : fault ≡ circle_fault circle
 
--- Why a text is refused. Each cause but the first stands only in a text within the limit on bytes, and
--- each that speaks of tokens or a tree only where no cause above it stands.
-pub data IsCause (text : List ℕ) : SourceFault → Type 0 where
-  too_long : most_bytes < length text → IsCause text (over_limit limit.Bytes)
-  byte : (at : ℕ) → length text ≤ most_bytes → IsFirstFault text (lexing.Byte at) → IsCause text (fault_at number.BYTE (place_at text at))
-  comment : (at : ℕ) → length text ≤ most_bytes → IsFirstFault text (lexing.Comment at) → IsCause text (fault_at number.COMMENT (place_at text at))
-  long : (at : ℕ) → length text ≤ most_bytes → IsFirstFault text (lexing.Long at) → IsCause text (fault_at number.LONG (place_at text at))
-  many : (tokens : List Token) → IsLexed text tokens → most_tokens < length tokens → IsCause text (over_limit limit.Tokens)
-  deep : (tokens : List Token) (k : ℕ) → IsCounted text tokens → IsFirstDeep tokens k → IsCause text (over_limit limit.Nesting)
-  syntax : (tokens : List Token) (k : ℕ) → IsCounted text tokens → IsUngrammatical text tokens k → IsCause text (fault_at number.SYNTAX (place_at text (byte_of text tokens k)))
-  nodes : (tokens : List Token) (tree : Source) → IsParsed text tokens tree → most_nodes < total (expressions tree) → IsCause text (over_limit limit.Nodes)
-  expression : (tokens : List Token) (tree : Source) → IsParsed text tokens tree → total (expressions tree) ≤ most_nodes →
-      most_nodes_of_one < largest (expressions tree) → IsCause text (over_limit limit.Expression)
+-- Why a text is refused at a tolerance. Each cause but the first stands only in a text within the limit on bytes,
+-- and each that speaks of tokens or a tree only where no cause above it stands.
+pub data IsCause (tolerance : Number) (text : List ℕ) : SourceFault → Type 0 where
+  too_long : most_bytes < length text → IsCause tolerance text (over_limit limit.Bytes)
+  byte : (at : ℕ) → length text ≤ most_bytes → IsFirstFault text (lexing.Byte at) →
+      IsCause tolerance text (fault_at number.BYTE (place_at text at))
+  comment : (at : ℕ) → length text ≤ most_bytes → IsFirstFault text (lexing.Comment at) →
+      IsCause tolerance text (fault_at number.COMMENT (place_at text at))
+  long : (at : ℕ) → length text ≤ most_bytes → IsFirstFault text (lexing.Long at) →
+      IsCause tolerance text (fault_at number.LONG (place_at text at))
+  many : (tokens : List Token) → IsLexed text tokens → most_tokens < length tokens →
+      IsCause tolerance text (over_limit limit.Tokens)
+  deep : (tokens : List Token) (k : ℕ) → IsCounted text tokens → IsFirstDeep tokens k →
+      IsCause tolerance text (over_limit limit.Nesting)
+  syntax : (tokens : List Token) (k : ℕ) → IsCounted text tokens → IsUngrammatical text tokens k →
+      IsCause tolerance text (fault_at number.SYNTAX (place_at text (byte_of text tokens k)))
+  nodes : (tokens : List Token) (tree : Source) → IsParsed text tokens tree → most_nodes < total (expressions tree) →
+      IsCause tolerance text (over_limit limit.Nodes)
+  expression : (tokens : List Token) (tree : Source) → IsParsed text tokens tree →
+      total (expressions tree) ≤ most_nodes → most_nodes_of_one < largest (expressions tree) →
+      IsCause tolerance text (over_limit limit.Expression)
   typed : (tokens : List Token) (tree : Source) (fault : TypeFault) → IsMeasured text tokens tree →
-      fault_of tree ≡ Some fault → IsCause text (shown fault)
-  cycle : (fault : SourceFault) → IsCircle text fault → IsCause text fault
-  interval : (tokens : List Token) (tree : Source) (numbers : List Placed) (lost : Placed) (place : Place) → IsOrdered text tokens tree →
-      AreRangeNumbers tree numbers → first_unfit numbers ≡ Some lost → StandsAt (unfolded tree).items lost.item place →
-      IsCause text (range_fault place lost.what)
-  unbuilt : (tokens : List Token) (tree : Source) → IsRanged text tokens tree → ¬ (IsPlain tokens tree) → IsCause text (fault_at number.NOT_YET (unbuilt_place text tokens))
+      fault_of tree ≡ Some fault → IsCause tolerance text (shown fault)
+  cycle : (fault : SourceFault) → IsCircle text fault → IsCause tolerance text fault
+  interval : (tokens : List Token) (tree : Source) (numbers : List Placed) (lost : Placed) (place : Place) →
+      IsOrdered text tokens tree → AreRangeNumbers tree numbers → first_unfit numbers ≡ Some lost →
+      StandsAt (unfolded tree).items lost.item place → IsCause tolerance text (range_fault place lost.what)
+  row : (tokens : List Token) (tree : Source) (numbers : List Placed) (lost : Placed) (place : Place) →
+      IsRanged text tokens tree → AreRowNumbers tolerance tree numbers → first_unfit numbers ≡ Some lost →
+      StandsAt (unfolded tree).items lost.item place → IsCause tolerance text (range_fault place lost.what)
 
 -- two faults are the same, or both show a circular list of the text: of several any may be shown
 abbrev pub IsSameCause : List ℕ → SourceFault → SourceFault → Type 0
 IsSameCause text f g = (f ≡ g) ⊎ (IsCircle text f × IsCircle text g)
 
 -- what an error may be: a cause of the text, or want of memory
-abbrev pub IsRefusal : List ℕ → SourceFault → Type 0
-IsRefusal text f = (f ≡ no_memory) ⊎ IsCause text f
+abbrev pub IsRefusal : Number → List ℕ → SourceFault → Type 0
+IsRefusal tolerance text f = (f ≡ no_memory) ⊎ IsCause tolerance text f
+
+-- what may be answered before rows are looked for, at whatever tolerance
+abbrev pub IsEarlyRefusal : List ℕ → SourceFault → Type 0
+IsEarlyRefusal text f = (tolerance : Number) → IsRefusal tolerance text f
 
 -- ---- systems
--- The system is one of a plain source with this text: lawful, with the source's weight, and exact for the source
--- at every tolerance.
-pub record IsCompiled (text : List ℕ) (system : System) : Type 0 where
+-- The source with this text is an accepted one, whose numbers fit. The program is its translation at the tolerance, and
+-- the order is the program's. The system is lawful, has the source's weight, and is exact for the source; its columns,
+-- rows and labels are those of the program's items.
+pub record IsCompiled (tolerance : Number) (text : List ℕ) (c : Compiled) : Type 0 where
   pub tokens : List Token
   pub tree : Source
   pub measured : IsMeasured text tokens tree
-  pub plain : IsPlain tokens tree
   pub accepted : Accepted tree
-  pub lawful : IsSystem system
-  pub weight : system.weight ≡ weight tree
-  pub exact : (tolerance : Number) → IsExactFor tolerance tree system
+  pub fit : NumbersFit tolerance tree
+  pub translation : IsTranslation tolerance tree c.program
+  pub program : IsProgram c.program
+  pub order : IsOrder c.program c.order
+  pub lawful : IsSystem c.system
+  pub weight : c.system.weight ≡ weight tree
+  pub exact : IsExactFor tolerance tree c.system
+  pub built : IsBuilt c.program (intervals c.program c.order) c.system
+  pub stated : AreStated c.program (intervals c.program c.order) c.system.rows

@@ -9,7 +9,7 @@ ghost use Rattle.hys_order.specs.Links.{Below};
 ghost use Rattle.hys_bound.specs.Ranges.{intervals};
 ghost use Rattle.hys_compile.specs.Faults.{circle_fault, range_fault};
 ghost use Rattle.hys_compile.specs.Sources.{text_at, IsProgramOf};
-ghost use Rattle.hys_compile.specs.Text.{IsTyped, IsOrdered, IsRanged, IsRefusal};
+ghost use Rattle.hys_compile.specs.Text.{IsTyped, IsOrdered, IsRanged, IsEarlyRefusal};
 
 use crate::fault::{Detail, SourceFault};
 use crate::number;
@@ -59,7 +59,7 @@ pub fn define(
     requires program { IsProgram program.now }
     ensures order { IfOk result (λ o. IsOrder program.now o) }
     ensures ordered { IfOk result (λ _. IsOrdered text.now tokens.now (source_of source.now)) }
-    ensures err { IfErr result (IsRefusal text.now) }
+    ensures err { IfErr result (IsEarlyRefusal text.now) }
 {
     match order(alloc, program) {
         Ok(order) => Ok(order),
@@ -72,7 +72,7 @@ pub fn define(
 
 // The place of an item.
 #[tactic(auto, using(crate::proofs::Unfit::item_at))]
-fn place_of(items: &[ProgItem], item: u32) -> Place
+pub fn place_of(items: &[ProgItem], item: u32) -> Place
     requires { item < length items.now }
     ensures { ItemAt items.now item (λ t. t.place ≡ result) }
 {
@@ -80,7 +80,7 @@ fn place_of(items: &[ProgItem], item: u32) -> Place
 }
 
 // An operation of an item whose result doesn't fit, as it is shown.
-fn show_range(place: Place, lost: Lost) -> SourceFault
+pub fn show_range(place: Place, lost: Lost) -> SourceFault
     ensures { result ≡ range_fault place lost }
 {
     SourceFault {
@@ -105,7 +105,7 @@ pub fn find_intervals(
     requires order { IsOrder program.now order.now }
     ensures intervals { IfOk result (λ boxes. boxes.items ≡ intervals program.now order.now) }
     ensures ranged { IfOk result (λ _. IsRanged text.now tokens.now (source_of source.now)) }
-    ensures err { IfErr result (IsRefusal text.now) }
+    ensures err { IfErr result (IsEarlyRefusal text.now) }
 {
     match bounds(alloc, program, order) {
         Ok(intervals) => Ok(intervals),

@@ -5,7 +5,7 @@ ghost use Rattle.hys_ast.specs.Places.{place_at};
 ghost use Rattle.hys_ast.specs.Seen.{source_of};
 ghost use Rattle.hys_lex.specs.Cut.{Cut};
 ghost use Rattle.hys_compile.specs.Faults.{fault_at};
-ghost use Rattle.hys_compile.specs.Text.{most_bytes, most_tokens, most_nodes, most_nodes_of_one, byte_of, IsLexed, IsCounted, IsParsed, IsMeasured, IsRefusal};
+ghost use Rattle.hys_compile.specs.Text.{most_bytes, most_tokens, most_nodes, most_nodes_of_one, byte_of, IsLexed, IsCounted, IsParsed, IsMeasured, IsEarlyRefusal};
 
 use crate::fault::{LimitKind, SourceFault};
 use crate::number;
@@ -36,7 +36,7 @@ fn refuse_at(text: &[u8], number: u8, byte: u32) -> SourceFault
 #[tactic(auto, using(crate::proofs::Causes::by_bytes))]
 pub fn size(text: &[u8]) -> Result<(), SourceFault>
     ensures ok { OnOk result (length text.now ≤ most_bytes) }
-    ensures err { IfErr result (IsRefusal text.now) }
+    ensures err { IfErr result (IsEarlyRefusal text.now) }
 {
     if text.len() as u64 > MOST_BYTES {
         return Err(SourceFault::over(LimitKind::Bytes));
@@ -49,7 +49,7 @@ pub fn size(text: &[u8]) -> Result<(), SourceFault>
 pub fn lex(alloc: Global, text: &[u8]) -> Result<Vec<Token>, SourceFault>
     requires { length text.now ≤ most_bytes }
     ensures ok { IfOk result (λ v. IsLexed text.now v.items) }
-    ensures err { IfErr result (IsRefusal text.now) }
+    ensures err { IfErr result (IsEarlyRefusal text.now) }
 {
     match tokens(alloc, text) {
         Ok(found) => Ok(found),
@@ -65,7 +65,7 @@ pub fn lex(alloc: Global, text: &[u8]) -> Result<Vec<Token>, SourceFault>
 pub fn count(text: &[u8], tokens: &[Token]) -> Result<(), SourceFault>
     requires { IsLexed text.now tokens.now }
     ensures ok { OnOk result (IsCounted text.now tokens.now) }
-    ensures err { IfErr result (IsRefusal text.now) }
+    ensures err { IfErr result (IsEarlyRefusal text.now) }
 {
     if tokens.len() > MOST_TOKENS {
         return Err(SourceFault::over(LimitKind::Tokens));
@@ -92,7 +92,7 @@ fn find_byte(text: &[u8], tokens: &[Token], place: u32) -> u32
 pub fn parse(alloc: Global, text: &[u8], tokens: &[Token]) -> Result<Source, SourceFault>
     requires { IsCounted text.now tokens.now }
     ensures ok { IfOk result (λ s. IsParsed text.now tokens.now (source_of s)) }
-    ensures err { IfErr result (IsRefusal text.now) }
+    ensures err { IfErr result (IsEarlyRefusal text.now) }
 {
     match hys_parse::parse(alloc, tokens, text) {
         Ok(source) => Ok(source),
@@ -111,7 +111,7 @@ pub fn parse(alloc: Global, text: &[u8], tokens: &[Token]) -> Result<Source, Sou
 pub fn measure(text: &[u8], tokens: &[Token], source: &Source) -> Result<(), SourceFault>
     requires { IsParsed text.now tokens.now (source_of source.now) }
     ensures ok { OnOk result (IsMeasured text.now tokens.now (source_of source.now)) }
-    ensures err { IfErr result (IsRefusal text.now) }
+    ensures err { IfErr result (IsEarlyRefusal text.now) }
 {
     let count = count_nodes(source);
     if count.total > MOST_NODES {

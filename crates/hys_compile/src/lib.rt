@@ -1,7 +1,7 @@
 //! From the bytes of a source to the system of its automaton.
 #![tactic(auto)]
 
-mod build;
+mod building;
 mod compiler;
 mod defining;
 mod fault;
@@ -13,7 +13,7 @@ pub mod number;
 mod tests;
 mod typing;
 
-pub use compiler::compile;
+pub use compiler::{Compiled, compile};
 pub use fault::{Detail, LimitKind, SourceFault};
 pub use front::MOST_BYTES;
 pub use naming::name_fault;

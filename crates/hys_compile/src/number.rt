@@ -54,7 +54,7 @@ pub const RANGE: u8 = 17;
 /// A limit is passed.
 pub const LIMIT: u8 = 18;
 
-/// The source is one that isn't built yet.
+/// The source is one that isn't built yet. No source has this fault any more, but it keeps its number.
 pub const NOT_YET: u8 = 19;
 
 /// The tolerance isn't above 0.

@@ -1,4 +1,4 @@
-use crate::{Detail, LimitKind, SourceFault, compile};
+use crate::{Compiled, Detail, LimitKind, SourceFault, compile};
 use hys_ast::Place;
 use hys_frac::Frac;
 use hys_lin::Op;
@@ -19,8 +19,13 @@ enum Answer {
     Other(u8),
 }
 
+// The tolerance of guards without one of their own.
+fn tolerance() -> Frac {
+    Frac::new(1, 1000).unwrap_or(Frac::ONE)
+}
+
 fn judged(alloc: Global, text: &[u8]) -> Answer {
-    match compile(alloc, text) {
+    match compile(alloc, text, tolerance()) {
         Ok(_) => Answer::System,
         Err(SourceFault { number, detail }) => match detail {
             Detail::At(Place { line, col, .. }) => Answer::Placed(number, line, col),
@@ -102,42 +107,7 @@ fn syntax_faults(rt: HostRuntime) -> Result<(), Fail> {
 }
 
 #[test]
-fn sections_that_are_not_built(rt: HostRuntime) -> Result<(), Fail> {
-    expect(
-        &rt,
-        rt.alloc(),
-        &[
-            (
-                "SYSTEM v { INTERFACE { PARAMETER { } } IMPLEMENTATION { } }",
-                Answer::Placed(19, 1, 24),
-            ),
-            (
-                "SYSTEM v { INTERFACE { OUTPUT { } } IMPLEMENTATION { } }",
-                Answer::Placed(19, 1, 24),
-            ),
-            (
-                "SYSTEM v { INTERFACE { INPUT { BOOL a; } } IMPLEMENTATION { AUX { } } }",
-                Answer::Placed(19, 1, 32),
-            ),
-            (
-                "SYSTEM v { INTERFACE { } IMPLEMENTATION {\nAUX { BOOL d; } LOGIC { d = TRUE; } } }",
-                Answer::Placed(19, 2, 1),
-            ),
-            (
-                "SYSTEM v { INTERFACE { } IMPLEMENTATION { MUST { } AD { } } }",
-                Answer::Placed(19, 1, 43),
-            ),
-            (
-                "SYSTEM v { INTERFACE { STATE { REAL x [0, 1]; } } IMPLEMENTATION { CONTINUOUS { x = (x); } } }",
-                Answer::Placed(19, 1, 1),
-            ),
-        ],
-    );
-    Ok(())
-}
-
-#[test]
-fn plain_sources(rt: HostRuntime) -> Result<(), Fail> {
+fn small_sources(rt: HostRuntime) -> Result<(), Fail> {
     expect(
         &rt,
         rt.alloc(),
@@ -145,6 +115,14 @@ fn plain_sources(rt: HostRuntime) -> Result<(), Fail> {
             (INTEGRATOR, Answer::System),
             (
                 "SYSTEM e { INTERFACE { } IMPLEMENTATION { } }",
+                Answer::System,
+            ),
+            (
+                "SYSTEM v { INTERFACE { PARAMETER { } OUTPUT { } } IMPLEMENTATION { } }",
+                Answer::System,
+            ),
+            (
+                "SYSTEM v { INTERFACE { INPUT { BOOL a; } } IMPLEMENTATION { AUX { } MUST { } AD { } } }",
                 Answer::System,
             ),
             (
@@ -188,10 +166,7 @@ fn limit_on_tokens(rt: HostRuntime) -> Result<(), Fail> {
 #[test]
 fn limit_on_nesting(rt: HostRuntime) -> Result<(), Fail> {
     let alloc = rt.alloc();
-    for (count, wanted) in [
-        (64, Answer::Placed(19, 1, 1)),
-        (65, Answer::Over(LimitKind::Nesting)),
-    ] {
+    for (count, wanted) in [(64, Answer::System), (65, Answer::Over(LimitKind::Nesting))] {
         let open = repeated(alloc, "(", count)?;
         let close = repeated(alloc, ")", count)?;
         let text = format!(in alloc;
@@ -224,7 +199,7 @@ fn limits_on_nodes(rt: HostRuntime) -> Result<(), Fail> {
     let rows = [
         (4, "x = -x;", Answer::Placed(14, 1, 2084)),
         (4, "x = x + x;", Answer::Over(LimitKind::Nodes)),
-        (0, "x = -x + x;", Answer::Placed(19, 1, 1)),
+        (0, "x = -x + x;", Answer::System),
     ];
     let sum = repeated(alloc, " + x", 499)?;
     for (count, last, wanted) in rows {
@@ -236,7 +211,7 @@ fn limits_on_nodes(rt: HostRuntime) -> Result<(), Fail> {
         assert_eq!(rt; judged(alloc, text.as_bytes()), wanted, "{count} {last}");
     }
     for (sign, wanted) in [
-        ("-", Answer::Placed(19, 1, 1)),
+        ("-", Answer::System),
         ("- -", Answer::Over(LimitKind::Expression)),
     ] {
         let text = format!(in alloc;
@@ -304,13 +279,78 @@ fn in_words(alloc: Global, number: u8, detail: &Detail) -> Result<String, AllocE
 
 // What the compiler answers, in few words.
 fn described(alloc: Global, text: &str) -> Result<String, AllocError> {
-    match compile(alloc, text.as_bytes()) {
-        Ok(_) => format!(in alloc; "a system"),
+    match compile(alloc, text.as_bytes(), tolerance()) {
+        Ok(Compiled { system, .. }) => {
+            let columns = system.columns.items().len();
+            let rows = system.rows.items().len();
+            format!(in alloc; "{columns} columns, {rows} rows")
+        }
         Err(fault) => in_words(alloc, fault.number, &fault.detail),
     }
 }
 
-const TYPING: [(&str, &str); 31] = [
+const GUARD: &str =
+    "SYSTEM g { INTERFACE { STATE { REAL x [0, 10]; } } IMPLEMENTATION { AUX { BOOL d; } AD { d = x >= 5; } CONTINUOUS { x = x; } } }";
+
+const OWN: &str =
+    "SYSTEM g { INTERFACE { STATE { REAL x [0, 10]; } } IMPLEMENTATION { AUX { BOOL d; } AD { d = x >= 5 [1/2]; } CONTINUOUS { x = x; } } }";
+
+const THERMOSTAT: &str = "SYSTEM thermostat {
+  INTERFACE {
+    STATE { REAL T [-10, 60]; BOOL on; }
+    INPUT { REAL amb [-10, 30]; }   // outside
+    OUTPUT { REAL y; }
+    PARAMETER { REAL a = 0.8; REAL b = 1 - a; }
+  }
+  IMPLEMENTATION {
+    AUX { BOOL hot, cold; REAL heat; }
+    AD { hot = T >= 22; cold = T <= 18; }
+    DA { heat = { IF on THEN 30 ELSE 0 }; }
+    AUTOMATA { on = cold | (on & ~hot); }
+    CONTINUOUS { T = a*T + b*(amb + heat); }
+    OUTPUT { y = T; }
+    MUST { T <= 55; }
+  }
+}
+";
+
+const ROWS: [(&str, &str); 46] = [
+    (INTEGRATOR, "2 columns, 0 rows"),
+    (
+        "SYSTEM e { INTERFACE { STATE { } } IMPLEMENTATION { MUST { } } }",
+        "0 columns, 0 rows",
+    ),
+    (GUARD, "2 columns, 2 rows"),
+    (
+        "SYSTEM p { INTERFACE { STATE { REAL x [0, 9223372036854775807]; } } IMPLEMENTATION { CONTINUOUS { x = x; } } }",
+        "1 columns, 0 rows",
+    ),
+    (
+        "SYSTEM g { INTERFACE { STATE { REAL x [0, 10]; } } IMPLEMENTATION { AUX { BOOL d; } AD { d = x <= 20; } CONTINUOUS { x = x; } } }",
+        "2 columns, 2 rows",
+    ),
+    (
+        "SYSTEM c { INTERFACE { STATE { REAL x [0, 10]; } INPUT { BOOL a, b; } } IMPLEMENTATION { AUX { REAL z; } DA { z = { IF a <-> ~b THEN 2*x }; } CONTINUOUS { x = x; } } }",
+        "5 columns, 8 rows",
+    ),
+    (
+        "SYSTEM b { INTERFACE { STATE { REAL x [0, 10]; } INPUT { BOOL a, b; } } IMPLEMENTATION { CONTINUOUS { x = x + 3*(REAL a) + 2*(REAL b); } MUST { 3*(REAL a) + 2*(REAL b) <= 4; } } }",
+        "3 columns, 1 rows",
+    ),
+    (THERMOSTAT, "7 columns, 17 rows"),
+    (
+        "SYSTEM v { INTERFACE { STATE { REAL x [0, 10]; } INPUT { REAL u [-1, 1]; } } IMPLEMENTATION { AUX { REAL z; } LINEAR { z = 2*x - u + 3; } CONTINUOUS { x = z; } } }",
+        "3 columns, 2 rows",
+    ),
+    (
+        "SYSTEM v { INTERFACE { STATE { REAL x [0, 10]; } INPUT { REAL u [-1, 1]; } } IMPLEMENTATION { AUX { REAL z, w; } LINEAR { z = w + 1; w = 2*x; } CONTINUOUS { x = z; } } }",
+        "4 columns, 4 rows",
+    ),
+    (OWN, "2 columns, 2 rows"),
+    (
+        "SYSTEM h { INTERFACE { STATE { REAL x [0, 10]; } INPUT { BOOL a; } } IMPLEMENTATION { AUX { BOOL d; } LOGIC { d = a & x <= 4; } CONTINUOUS { x = x; } } }",
+        "4 columns, 6 rows",
+    ),
     (
         "SYSTEM t { INTERFACE { STATE {\nREAL x [0, 1], x [0, 1]; } } IMPLEMENTATION { } }",
         "5 2:16",
@@ -345,7 +385,7 @@ const TYPING: [(&str, &str); 31] = [
     ),
     (
         "SYSTEM p { INTERFACE { STATE { REAL x [3, 3]; } } IMPLEMENTATION { CONTINUOUS { x = x; } } }",
-        "a system",
+        "1 columns, 0 rows",
     ),
     (
         "SYSTEM t { INTERFACE { PARAMETER {\nREAL a; } } IMPLEMENTATION { } }",
@@ -393,15 +433,28 @@ const TYPING: [(&str, &str); 31] = [
     ),
     (
         "SYSTEM t { INTERFACE { STATE { REAL x [0, 10]; } } IMPLEMENTATION { AUX { REAL z; } LINEAR { z = z - z + x; } CONTINUOUS {\nx = z; } } }",
-        "19 1:69",
+        "2 columns, 2 rows",
     ),
     (
         "SYSTEM t { INTERFACE { STATE { REAL x [0, 9223372036854775807]; } } IMPLEMENTATION { AUX { BOOL d; } AD {\nd = x <= -1; } CONTINUOUS { x = x; } } }",
         "17 2:1 true 1 9223372036854775807",
     ),
+    // The least guard number less the tolerance, of an AD item and of a comparison in a formula.
+    (
+        "SYSTEM t { INTERFACE { STATE { REAL x [0, 9223372036854775807]; } } IMPLEMENTATION { AUX { BOOL d; } AD {\nd = x >= 5; } CONTINUOUS { x = x; } } }",
+        "17 2:1 false -9223372036854775802 1",
+    ),
+    (
+        "SYSTEM t { INTERFACE { STATE { REAL x [0, 9223372036854775807]; } } IMPLEMENTATION { AUX { BOOL d; } LOGIC {\nd = x >= 5; } CONTINUOUS { x = x; } } }",
+        "17 2:7 false -9223372036854775802 1",
+    ),
     // Two faults: names before values, boxes before items, the left name before the right side, operands before their
-    // operator, items before names that none defines, circles before numbers of intervals, and all of these before what
-    // isn't built yet.
+    // operator, items before names that none defines, circles before numbers of intervals, and these before numbers of
+    // rows.
+    (
+        "SYSTEM t { INTERFACE { STATE { REAL x [0, 9223372036854775807]; } } IMPLEMENTATION { AUX { BOOL d, e; } AD { d = x >= 5;\ne = x <= -1; } CONTINUOUS { x = x; } } }",
+        "17 2:1 true 1 9223372036854775807",
+    ),
     (
         "SYSTEM t { INTERFACE { STATE { REAL x [0, 9223372036854775807]; } } IMPLEMENTATION { AUX { BOOL d, e; } AD { d = x <= -1; } LOGIC { e = e; } CONTINUOUS { x = x; } } }",
         "16 e",
@@ -436,16 +489,39 @@ const TYPING: [(&str, &str); 31] = [
     ),
     (
         "SYSTEM t { INTERFACE { PARAMETER {\nREAL a = 1; } } IMPLEMENTATION { } }",
-        "19 1:24",
+        "0 columns, 0 rows",
     ),
 ];
 
 #[test]
-fn typing_faults(rt: HostRuntime) -> Result<(), Fail> {
+fn rows(rt: HostRuntime) -> Result<(), Fail> {
     let alloc = rt.alloc();
-    for (text, wanted) in TYPING {
+    for (text, wanted) in ROWS {
         let got = described(alloc, text)?;
         assert_eq!(rt; got.as_str(), wanted, "{text}");
+    }
+    Ok(())
+}
+
+// The bound of the guard's second row: 5 less the tolerance that was asked for, or less its own.
+#[test]
+fn tolerances(rt: HostRuntime) -> Result<(), Fail> {
+    let alloc = rt.alloc();
+    let half = Frac::new(1, 2).unwrap_or(Frac::ONE);
+    for (text, eps, num, den) in [
+        (GUARD, tolerance(), 4999, 1000),
+        (GUARD, half, 9, 2),
+        (OWN, tolerance(), 9, 2),
+        (OWN, Frac::ONE, 9, 2),
+    ] {
+        let bound = match compile(alloc, text.as_bytes(), eps) {
+            Ok(Compiled { system, .. }) => match system.rows.items().get(1) {
+                Some(row) => (row.bound.num(), row.bound.den()),
+                None => (0, 1),
+            },
+            Err(_) => (0, 0),
+        };
+        assert_eq!(rt; bound, (num, den), "{text}");
     }
     Ok(())
 }
@@ -466,18 +542,14 @@ fn long_chain(rt: HostRuntime) -> Result<(), Fail> {
     let text = format!(in alloc;
         "SYSTEM n {{ INTERFACE {{ STATE {{ REAL x [0, 1]; }} }} IMPLEMENTATION {{ AUX {{ REAL {names}z198; }} LINEAR {{ {items}z198 = x; }} CONTINUOUS {{ x = z0; }} }} }}"
     )?;
-    assert_eq!(rt; judged(alloc, text.as_bytes()), Answer::Placed(19, 1, 68));
+    assert_eq!(rt; judged(alloc, text.as_bytes()), Answer::System);
     Ok(())
 }
 
-// With 200 names the source is one that isn't built yet.
 #[test]
 fn limit_on_names(rt: HostRuntime) -> Result<(), Fail> {
     let alloc = rt.alloc();
-    for (count, wanted) in [
-        (200, Answer::Placed(19, 1, 32)),
-        (201, Answer::Over(LimitKind::Names)),
-    ] {
+    for (count, wanted) in [(200, Answer::System), (201, Answer::Over(LimitKind::Names))] {
         let mut names = String::new(alloc);
         for number in 0..count {
             let name = format!(in alloc; "BOOL a{number}; ")?;

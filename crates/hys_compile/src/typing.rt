@@ -7,7 +7,7 @@ ghost use Rattle.hys_prog.specs.Programs.{IsProgram};
 ghost use Rattle.hys_type.specs.Translation.{IsTranslation};
 ghost use Rattle.hys_compile.specs.Faults.{shown};
 ghost use Rattle.hys_compile.specs.Sources.{IsProgramOf};
-ghost use Rattle.hys_compile.specs.Text.{IsMeasured, IsTyped, IsRefusal};
+ghost use Rattle.hys_compile.specs.Text.{IsMeasured, IsTyped, IsEarlyRefusal};
 
 use crate::fault::{Detail, LimitKind, SourceFault};
 use crate::number;
@@ -72,7 +72,7 @@ pub fn translate(
     ensures translation { IfOk result (λ p. IsTranslation tolerance (source_of source.now) p) }
     ensures translated { IfOk result (IsProgramOf (source_of source.now)) }
     ensures program { IfOk result (λ p. IsProgram p) }
-    ensures err { IfErr result (IsRefusal text.now) }
+    ensures err { IfErr result (IsEarlyRefusal text.now) }
 {
     match program(alloc, source, tolerance) {
         Ok(program) => Ok(program),

@@ -1,4 +1,4 @@
--- The two systems keep what every system keeps.
+-- The systems keep what every system keeps.
 use Rattle.std.proofs.Common.{◌≡◌, ◌≤◌, [], ◌∷◌, codes, pos, refl, arith, false}
 use Rattle.std.proofs.lemmas.List.Elements.{All-from_recursion}
 use Rattle.hys_number.specs.Number.{make}
@@ -8,10 +8,11 @@ use Rattle.hys_lin.specs.declared.form.Affine.{Affine}
 use Rattle.hys_lin.specs.declared.form.Row.{Row}
 use Rattle.hys_sys.specs.System.{IsSystem, IsBox, rank, names}
 use Rattle.hys_sys.specs.declared.system.ColumnRole.TheVariants.{Input, D}
+use Rattle.hys_sys.specs.declared.system.Kind2.TheVariants.{Real}
 use Rattle.hys_sys.specs.declared.system.Column.{Column}
 use Rattle.hys_sys.specs.declared.system.Output.{Output}
-use Rattle.hys_compile.proofs.Texts.{differing}
-use Rattle.hys_examples.specs.Systems.{bool_column, casting_system, guarded_system}
+use Rattle.hys_type.proofs.KnownValues.{differ_texts}
+use Rattle.hys_examples.specs.Systems.{bool_column, casting_system, guarded_system, summed_system}
 use Rattle.hys_examples.proofs.Numbers.{whole-is, over-is, decides}
 
 zero_ten : whole 0 ≤ₙ whole 10
@@ -39,7 +40,7 @@ pub casting_lawful : IsSystem casting_system
 casting_lawful = record {
   order = (All-from_recursion (λ (d : Column). 0 ≤ rank d.role) (bool_column (codes "a") Input ∷ bool_column (codes "b") Input ∷ []) (omega arith, (omega arith, tt)), (All-from_recursion (λ (d : Column). 1 ≤ rank d.role) (bool_column (codes "b") Input ∷ []) (omega arith, tt), (All-from_recursion (λ (d : Column). 1 ≤ rank d.role) [] tt, tt)));
   boxes = All-from_recursion (λ (c : Column). IsBox c.kind c.bounds) casting_system.columns (zero_ten, ((refl, refl), ((refl, refl), tt)));
-  differ = differing (names casting_system) refl;
+  differ = differ_texts (names casting_system) refl;
   each = refl;
   next = All-from_recursion (λ (f : Affine). AreTermsOver 3 f.terms) casting_system.next (record { rise = (one_not_zero, (omega arith, (omega arith, tt)), (three_not_zero, (omega arith, tt), (two_not_zero, tt, tt))); below = (omega arith, (omega arith, (omega arith, tt))) }, tt);
   outputs = All-from_recursion (λ (o : Output). AreTermsOver 3 o.form.terms) [] tt;
@@ -54,7 +55,7 @@ pub guarded_lawful : IsSystem guarded_system
 guarded_lawful = record {
   order = (All-from_recursion (λ (d : Column). 0 ≤ rank d.role) (bool_column (codes "d") D ∷ []) (omega arith, tt), (All-from_recursion (λ (d : Column). 2 ≤ rank d.role) [] tt, tt));
   boxes = All-from_recursion (λ (c : Column). IsBox c.kind c.bounds) guarded_system.columns (zero_ten, ((refl, refl), tt));
-  differ = differing (names guarded_system) refl;
+  differ = differ_texts (names guarded_system) refl;
   each = refl;
   next = All-from_recursion (λ (f : Affine). AreTermsOver 2 f.terms) guarded_system.next (record { rise = (one_not_zero, tt, tt); below = (omega arith, tt) }, tt);
   outputs = All-from_recursion (λ (o : Output). AreTermsOver 2 o.form.terms) [] tt;
@@ -63,6 +64,24 @@ guarded_lawful = record {
     (record { rise = (one_not_zero, (omega arith, tt), (drop_not_zero, tt, tt)); below = (omega arith, (omega arith, tt)) }, tt),
   );
   no_equation = All-from_recursion (λ (r : Row). r.eq ≡ false) guarded_system.rows (refl, (refl, tt));
+  labelled = refl;
+  few_columns = omega arith;
+  few_rows = omega arith;
+}
+
+minus_one_one : neg (whole 1) ≤ₙ whole 1
+minus_one_one = rw (whole-is 1) (simp decides (omega arith))
+
+pub summed_lawful : IsSystem summed_system
+summed_lawful = record {
+  order = (All-from_recursion (λ (d : Column). 0 ≤ rank d.role) (record { name = codes "u"; role = Input; kind = Real; bounds = record { low = neg (whole 1); high = whole 1 } } ∷ []) (omega arith, tt), (All-from_recursion (λ (d : Column). 1 ≤ rank d.role) [] tt, tt));
+  boxes = All-from_recursion (λ (c : Column). IsBox c.kind c.bounds) summed_system.columns (zero_ten, (minus_one_one, tt));
+  differ = differ_texts (names summed_system) refl;
+  each = refl;
+  next = All-from_recursion (λ (f : Affine). AreTermsOver 2 f.terms) summed_system.next (record { rise = (one_not_zero, (omega arith, tt), (one_not_zero, tt, tt)); below = (omega arith, (omega arith, tt)) }, tt);
+  outputs = All-from_recursion (λ (o : Output). AreTermsOver 2 o.form.terms) [] tt;
+  rows = All-from_recursion (λ (r : Row). AreTermsOver 2 r.terms) [] tt;
+  no_equation = All-from_recursion (λ (r : Row). r.eq ≡ false) [] tt;
   labelled = refl;
   few_columns = omega arith;
   few_rows = omega arith;

@@ -5,7 +5,7 @@
 --   one step and that they agree are then one lemma, `same_truth`.
 -- - Rows under `unfolding Holds`, next values under `unfolding value`; boxes by `zero_is`, `ten_is` (`literal`
 --   against `whole`).
--- - `Differ (names S)` of a concrete system is `differing (names S) refl` (hys_compile/proofs/Texts); `cc` on
+-- - `Differ (names S)` of a concrete system is `differ_texts (names S) refl` (hys_type/proofs/KnownValues); `cc` on
 --   texts meets its bound.
 -- - `All` over a concrete list: `All-from_recursion P list (a, (b, tt))` with the list written, since `_` isn't
 --   settled before the tuple.
@@ -40,7 +40,7 @@ pub mod Once
 pub mod Limited
 pub mod Weighed
 pub mod Switched
-pub mod Parted
+pub mod Added
 pub mod Keeping
 pub mod Folded
 pub mod Unique

@@ -1,10 +1,9 @@
--- The systems of two of the sources, and the parts of a plain one.
+-- The systems of three of the sources.
 use Rattle.std.specs.Prelude.{ℕ, List, [], ◌∷◌, codes, pos, false}
 use Rattle.hys_number.specs.Number.{Number, make}
 use Rattle.hys_number.specs.Ops.{whole, neg}
 use Rattle.hys_lin.specs.declared.form.Term.{Term}
 use Rattle.hys_lin.specs.declared.form.Row.{Row}
-use Rattle.hys_plain.specs.declared.parts.PlainParts.{PlainParts}
 use Rattle.hys_sys.specs.declared.system.ColumnRole.{ColumnRole}
 use Rattle.hys_sys.specs.declared.system.ColumnRole.TheVariants.{State, Input, D}
 use Rattle.hys_sys.specs.declared.system.Kind2.TheVariants.{Real, Bool}
@@ -51,10 +50,14 @@ guarded_system = record {
 }
 
 -- x within 0 and 10, u within -1 and 1, and the next x is their sum
-abbrev pub summed_parts : PlainParts
-summed_parts = record {
-  system = codes "s";
-  states = record { name = codes "x"; bounds = record { low = whole 0; high = whole 10 } } ∷ [];
-  inputs = record { name = codes "u"; bounds = record { low = neg (whole 1); high = whole 1 } } ∷ [];
+abbrev pub summed_system : System
+summed_system = record {
+  name = codes "s";
+  columns = real_column (codes "x") State 0 10
+      ∷ record { name = codes "u"; role = Input; kind = Real; bounds = record { low = neg (whole 1); high = whole 1 } } ∷ [];
   next = record { terms = term 0 (whole 1) ∷ term 1 (whole 1) ∷ []; constant = whole 0 } ∷ [];
+  outputs = [];
+  rows = [];
+  labels = [];
+  weight = 2;
 }

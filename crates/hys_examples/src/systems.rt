@@ -1,24 +1,16 @@
 //! Systems that are exact for their sources, worked out by hand.
 
-ghost use Rattle.std.specs.Prelude.{List, IsTrue};
-ghost use Rattle.std.specs.List.{AllByRecursion};
 ghost use Rattle.hys_number.specs.Number.{Number};
-ghost use Rattle.hys_lex.specs.declared.token.Token.{Token};
-ghost use Rattle.hys_plain.specs.Plain.{IsPlain, is_plain_kind};
-ghost use Rattle.hys_plain.specs.Meant.{PartsOf};
 ghost use Rattle.hys_sys.specs.System.{IsSystem};
 ghost use Rattle.hys_compile.specs.Automaton.{IsExactFor};
-ghost use Rattle.hys_compile.specs.System.{system_of};
 ghost use Rattle.hys_examples.specs.Sources.{summed, casting, guarded, tolerance};
-ghost use Rattle.hys_examples.specs.Systems.{casting_system, guarded_system, summed_parts};
+ghost use Rattle.hys_examples.specs.Systems.{casting_system, guarded_system, summed_system};
 
-/// The source of `x = x + u` is plain with any plain tokens, and the system of its parts is exact for it.
+/// A state x and an input u, where the next x is their sum: a system without rows is exact for its
+/// source at every tolerance.
 pub fn of_a_sum()
-    ensures plain { (tokens : List Token) → AllByRecursion (λ t. IsTrue (is_plain_kind t.kind)) tokens →
-        IsPlain tokens summed }
-    ensures parts { PartsOf summed summed_parts }
-    ensures system { IsSystem (system_of summed_parts) }
-    ensures exact { (t : Number) → IsExactFor t summed (system_of summed_parts) }
+    ensures system { IsSystem summed_system }
+    ensures exact { (t : Number) → IsExactFor t summed summed_system }
 {}
 
 /// Two switches that are weighed by 3 and 2, of at most 4 together: a system with one row is exact

@@ -34,7 +34,7 @@ use Rattle.hys_type.proofs.FormSums.{HasParameters}
 use Rattle.hys_type.proofs.SameBodies.{same_demand, same_case}
 
 -- ---- roles
-state_role : (s : Section) → program.is_state (role_in s) ≡ is_state s
+pub state_role : (s : Section) → program.is_state (role_in s) ≡ is_state s
 state_role section.State = refl
 state_role section.Input = refl
 state_role section.Output = refl
@@ -49,7 +49,7 @@ state_role section.Continuous = refl
 state_role section.OutputItem = refl
 state_role section.Must = refl
 
-input_role : (s : Section) → program.is_input (role_in s) ≡ is_input s
+pub input_role : (s : Section) → program.is_input (role_in s) ≡ is_input s
 input_role section.State = refl
 input_role section.Input = refl
 input_role section.Output = refl
@@ -64,7 +64,7 @@ input_role section.Continuous = refl
 input_role section.OutputItem = refl
 input_role section.Must = refl
 
-output_role : (s : Section) → program.is_output (role_in s) ≡ is_output s
+pub output_role : (s : Section) → program.is_output (role_in s) ≡ is_output s
 output_role section.State = refl
 output_role section.Input = refl
 output_role section.Output = refl

@@ -2,6 +2,7 @@
 #![tactic(auto)]
 
 ghost use Rattle.std.specs.Prelude.{◌≡◌, List, ℕ, Some, None, map, string_bytes, IfOk, OnErr};
+ghost use Rattle.hys_number.specs.Number.{Number};
 ghost use Rattle.hys_app.specs.Statuses.{number_of};
 ghost use Rattle.hys_app.specs.Ends.{outside, Ends};
 ghost use Rattle.hys_app.specs.Compiling.{IsCompileOutcome, IsUsage};
@@ -37,9 +38,10 @@ fn end<F: Files, S: Sink>(
     ensures no_form { IfOk words (λ w. form_of (map string_bytes w.items) ≡ None →
         (status : Status) × (result ≡ number_of status)
         × Ends IsUsage status (outside F.Files S.Sink files.old out.old) (outside F.Files S.Sink files.new out.new)) }
-    ensures compile { IfOk words (λ w. (source target : List ℕ) → form_of (map string_bytes w.items) ≡ Some (source, target) →
+    ensures compile { IfOk words (λ w. (source target : List ℕ) (tolerance : Number) →
+        form_of (map string_bytes w.items) ≡ Some (source, target, tolerance) →
         (status : Status) × (result ≡ number_of status)
-        × Ends (IsCompileOutcome (F.held files.old) source target) status
+        × Ends (IsCompileOutcome tolerance (F.held files.old) source target) status
         (outside F.Files S.Sink files.old out.old) (outside F.Files S.Sink files.new out.new)) }
 {
     match words {

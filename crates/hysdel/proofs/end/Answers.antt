@@ -5,7 +5,7 @@ pub returns-in-Ok-clause-no_form : goal.returns-in-Ok-clause-no_form
 returns-in-Ok-clause-no_form g c = rw c.in-Ok.is (λ e. (c.run.result, c.number.ensures, c.run.ensures.no_form e))
 
 pub returns-in-Ok-clause-compile : goal.returns-in-Ok-clause-compile
-returns-in-Ok-clause-compile g c = rw c.in-Ok.is (λ source target e. (c.run.result, c.number.ensures, c.run.ensures.compile source target e))
+returns-in-Ok-clause-compile g c = rw c.in-Ok.is (λ source target tolerance e. (c.run.result, c.number.ensures, c.run.ensures.compile source target tolerance e))
 
 pub returns-in-Err-clause-memory : goal.returns-in-Err-clause-memory
 unfolding number_of

@@ -1,5 +1,5 @@
 use Rattle.std.proofs.Common.{List, ℕ}
-use Rattle.hys_compile.proofs.Plain.{AreOnly, plain_passes}
+use Rattle.hys_compile.proofs.Only.{AreOnly, no_cause}
 use Rattle.hys_compile.proofs.Stages.{same_cause}
 use Rattle.hys_compile.proofs.laws.one_cause.Goals as goal
 
@@ -13,7 +13,7 @@ only c text = record {
 }
 
 pub returns-clause-one : goal.returns-clause-one
-returns-clause-one c = λ text f g. same_cause text f g (only c text)
+returns-clause-one c = λ tolerance text f g. same_cause tolerance text f g (only c text)
 
 pub returns-clause-none : goal.returns-clause-none
-returns-clause-none c = λ text f plain. plain_passes text plain.tokens plain.tree f (only c text) plain.measured plain.plain
+returns-clause-none c = λ tolerance text f. no_cause tolerance text f (only c text)
