@@ -1,144 +1,16 @@
-use crate::{Compiled, Detail, LimitKind, SourceFault, compile};
+use crate::{Compiled, Detail, compile};
 use hys_ast::Place;
 use hys_frac::Frac;
 use hys_lin::Op;
 use std::alloc::{AllocError, Global};
-use std::process::Abort;
 use std::test::Fail;
 
 const INTEGRATOR: &str =
     "SYSTEM s { INTERFACE { STATE { REAL x [0, 10]; } INPUT { REAL u [-1, 1]; } } IMPLEMENTATION { CONTINUOUS { x = x + u; } } }";
 
-// The answer of the compiler, the system left out.
-#[derive(Clone, Copy, Debug, PartialEq, Eq)]
-enum Answer {
-    System,
-    Placed(u8, u32, u32),
-    Over(LimitKind),
-    Memory,
-    Other(u8),
-}
-
 // The tolerance of guards without one of their own.
 fn tolerance() -> Frac {
     Frac::new(1, 1000).unwrap_or(Frac::ONE)
-}
-
-fn judged(alloc: Global, text: &[u8]) -> Answer {
-    match compile(alloc, text, tolerance()) {
-        Ok(_) => Answer::System,
-        Err(SourceFault { number, detail }) => match detail {
-            Detail::At(Place { line, col, .. }) => Answer::Placed(number, line, col),
-            Detail::Limit(kind) => Answer::Over(kind),
-            Detail::Memory => Answer::Memory,
-            Detail::Named(_)
-            | Detail::Names(_)
-            | Detail::Ends(..)
-            | Detail::Literal(_)
-            | Detail::Range(..)
-            | Detail::Tolerance(..) => Answer::Other(number),
-        },
-    }
-}
-
-fn expect(rt: &impl Abort, alloc: Global, rows: &[(&str, Answer)]) {
-    for (text, wanted) in rows {
-        assert_eq!(rt; judged(alloc, text.as_bytes()), *wanted, "{text}");
-    }
-}
-
-#[test]
-fn lexical_faults(rt: HostRuntime) -> Result<(), Fail> {
-    expect(
-        &rt,
-        rt.alloc(),
-        &[
-            ("@", Answer::Placed(1, 1, 1)),
-            ("SYSTEM s {\n @", Answer::Placed(1, 2, 2)),
-            ("SYSTEM s { < }", Answer::Placed(1, 1, 12)),
-            ("SYSTEM s { /* ", Answer::Placed(2, 1, 12)),
-            ("SYSTEM s { /*/", Answer::Placed(2, 1, 12)),
-            (
-                "SYSTEM aaaaaaaabbbbbbbbccccccccddddddddeeeeeeeeffffffffgggggggghhhhhhhhi { @",
-                Answer::Placed(3, 1, 8),
-            ),
-            (
-                "SYSTEM 012345670123456701234567012345670 { /* ",
-                Answer::Placed(3, 1, 8),
-            ),
-        ],
-    );
-    Ok(())
-}
-
-#[test]
-fn syntax_faults(rt: HostRuntime) -> Result<(), Fail> {
-    expect(
-        &rt,
-        rt.alloc(),
-        &[
-            ("", Answer::Placed(4, 1, 1)),
-            ("  \n // nothing", Answer::Placed(4, 2, 12)),
-            ("SYSTEM s", Answer::Placed(4, 1, 9)),
-            ("SYSTEM SYSTEM { }", Answer::Placed(4, 1, 8)),
-            (
-                "SYSTEM l { INTERFACE { INPUT { BOOL a, b, c; } }\nIMPLEMENTATION { AUX { BOOL d; } LOGIC {\nd = a -> b -> c;\n} } }",
-                Answer::Placed(4, 3, 12),
-            ),
-            (
-                "SYSTEM s { INTERFACE { STATE { REAL x [0, 1]; } } IMPLEMENTATION { CONTINUOUS {\nx = 1.5e; } } }",
-                Answer::Placed(4, 2, 8),
-            ),
-            (
-                "SYSTEM s { INTERFACE { STATE { } STATE { } } IMPLEMENTATION { } }",
-                Answer::Placed(4, 1, 34),
-            ),
-            (
-                "SYSTEM s { INTERFACE { } IMPLEMENTATION { MUST { x >= 1 } } }",
-                Answer::Placed(4, 1, 57),
-            ),
-            (
-                "SYSTEM s { INTERFACE { } IMPLEMENTATION { } } ;",
-                Answer::Placed(4, 1, 47),
-            ),
-        ],
-    );
-    Ok(())
-}
-
-#[test]
-fn small_sources(rt: HostRuntime) -> Result<(), Fail> {
-    expect(
-        &rt,
-        rt.alloc(),
-        &[
-            (INTEGRATOR, Answer::System),
-            (
-                "SYSTEM e { INTERFACE { } IMPLEMENTATION { } }",
-                Answer::System,
-            ),
-            (
-                "SYSTEM v { INTERFACE { PARAMETER { } OUTPUT { } } IMPLEMENTATION { } }",
-                Answer::System,
-            ),
-            (
-                "SYSTEM v { INTERFACE { INPUT { BOOL a; } } IMPLEMENTATION { AUX { } MUST { } AD { } } }",
-                Answer::System,
-            ),
-            (
-                "/* \u{ff} */ SYSTEM e{INTERFACE{STATE{}}IMPLEMENTATION{CONTINUOUS{}}} // end",
-                Answer::System,
-            ),
-        ],
-    );
-    let alloc = rt.alloc();
-    let mut comment = b"/*x*/ ".to_vec(alloc)?;
-    comment[2] = 255;
-    comment.extend_from_slice(INTEGRATOR.as_bytes())?;
-    assert_eq!(rt; judged(alloc, &comment), Answer::System);
-    let unended = &INTEGRATOR.as_bytes()[..INTEGRATOR.len() - 1];
-    assert_eq!(rt; judged(alloc, unended), Answer::Placed(4, 1, 123));
-    Ok(())
 }
 
 // The piece so many times.
@@ -148,78 +20,6 @@ fn repeated(alloc: Global, piece: &str, count: u32) -> Result<String, AllocError
         text.push_str(piece)?;
     }
     Ok(text)
-}
-
-#[test]
-fn limit_on_tokens(rt: HostRuntime) -> Result<(), Fail> {
-    let alloc = rt.alloc();
-    for (count, wanted) in [
-        (16_384, Answer::Placed(4, 1, 1)),
-        (16_385, Answer::Over(LimitKind::Tokens)),
-    ] {
-        let text = repeated(alloc, ";", count)?;
-        assert_eq!(rt; judged(alloc, text.as_bytes()), wanted, "{count}");
-    }
-    Ok(())
-}
-
-#[test]
-fn limit_on_nesting(rt: HostRuntime) -> Result<(), Fail> {
-    let alloc = rt.alloc();
-    for (count, wanted) in [(64, Answer::System), (65, Answer::Over(LimitKind::Nesting))] {
-        let open = repeated(alloc, "(", count)?;
-        let close = repeated(alloc, ")", count)?;
-        let text = format!(in alloc;
-            "SYSTEM n {{ INTERFACE {{ STATE {{ REAL x [0, 1]; }} }} IMPLEMENTATION {{ CONTINUOUS {{ x = {open}x{close}; }} }} }}"
-        )?;
-        assert_eq!(rt; judged(alloc, text.as_bytes()), wanted, "{count}");
-    }
-    Ok(())
-}
-
-#[test]
-fn limit_on_bytes(rt: HostRuntime) -> Result<(), Fail> {
-    let alloc = rt.alloc();
-    for (count, wanted) in [
-        (1_048_576, Answer::Placed(4, 1, 1_048_577)),
-        (1_048_577, Answer::Over(LimitKind::Bytes)),
-    ] {
-        let mut text = Vec::new(alloc);
-        text.resize(count, b' ')?;
-        assert_eq!(rt; judged(alloc, &text), wanted, "{count}");
-    }
-    Ok(())
-}
-
-// Each bound is a node, and a sum of n names has 2 * n - 1 nodes. The second item, after 80 and 2,003 characters, defines
-// the name again.
-#[test]
-fn limits_on_nodes(rt: HostRuntime) -> Result<(), Fail> {
-    let alloc = rt.alloc();
-    let rows = [
-        (4, "x = -x;", Answer::Placed(14, 1, 2084)),
-        (4, "x = x + x;", Answer::Over(LimitKind::Nodes)),
-        (0, "x = -x + x;", Answer::System),
-    ];
-    let sum = repeated(alloc, " + x", 499)?;
-    for (count, last, wanted) in rows {
-        let item = format!(in alloc; "x = x{sum}; ")?;
-        let items = repeated(alloc, item.as_str(), count)?;
-        let text = format!(in alloc;
-            "SYSTEM n {{ INTERFACE {{ STATE {{ REAL x [0, 1]; }} }} IMPLEMENTATION {{ CONTINUOUS {{ {items}{last} }} }} }}"
-        )?;
-        assert_eq!(rt; judged(alloc, text.as_bytes()), wanted, "{count} {last}");
-    }
-    for (sign, wanted) in [
-        ("-", Answer::System),
-        ("- -", Answer::Over(LimitKind::Expression)),
-    ] {
-        let text = format!(in alloc;
-            "SYSTEM n {{ INTERFACE {{ STATE {{ REAL x [0, 1]; }} }} IMPLEMENTATION {{ CONTINUOUS {{ x = {sign}x{sum}; }} }} }}"
-        )?;
-        assert_eq!(rt; judged(alloc, text.as_bytes()), wanted, "{sign}");
-    }
-    Ok(())
 }
 
 // The number of a fault with its place.
@@ -278,8 +78,8 @@ fn in_words(alloc: Global, number: u8, detail: &Detail) -> Result<String, AllocE
 }
 
 // What the compiler answers, in few words.
-fn described(alloc: Global, text: &str) -> Result<String, AllocError> {
-    match compile(alloc, text.as_bytes(), tolerance()) {
+fn described(alloc: Global, text: &[u8]) -> Result<String, AllocError> {
+    match compile(alloc, text, tolerance()) {
         Ok(Compiled { system, .. }) => {
             let columns = system.columns.items().len();
             let rows = system.rows.items().len();
@@ -314,7 +114,54 @@ const THERMOSTAT: &str = "SYSTEM thermostat {
 }
 ";
 
-const ROWS: [(&str, &str); 46] = [
+const ROWS: [(&str, &str); 66] = [
+    ("@", "1 1:1"),
+    ("SYSTEM s {\n @", "1 2:2"),
+    ("SYSTEM s { < }", "1 1:12"),
+    ("SYSTEM s { /* ", "2 1:12"),
+    ("SYSTEM s { /*/", "2 1:12"),
+    (
+        "SYSTEM aaaaaaaabbbbbbbbccccccccddddddddeeeeeeeeffffffffgggggggghhhhhhhhi { @",
+        "3 1:8",
+    ),
+    ("SYSTEM 012345670123456701234567012345670 { /* ", "3 1:8"),
+    ("", "4 1:1"),
+    ("  \n // nothing", "4 2:12"),
+    ("SYSTEM s", "4 1:9"),
+    ("SYSTEM SYSTEM { }", "4 1:8"),
+    (
+        "SYSTEM l { INTERFACE { INPUT { BOOL a, b, c; } }\nIMPLEMENTATION { AUX { BOOL d; } LOGIC {\nd = a -> b -> c;\n} } }",
+        "4 3:12",
+    ),
+    (
+        "SYSTEM s { INTERFACE { STATE { REAL x [0, 1]; } } IMPLEMENTATION { CONTINUOUS {\nx = 1.5e; } } }",
+        "4 2:8",
+    ),
+    (
+        "SYSTEM s { INTERFACE { STATE { } STATE { } } IMPLEMENTATION { } }",
+        "4 1:34",
+    ),
+    (
+        "SYSTEM s { INTERFACE { } IMPLEMENTATION { MUST { x >= 1 } } }",
+        "4 1:57",
+    ),
+    ("SYSTEM s { INTERFACE { } IMPLEMENTATION { } } ;", "4 1:47"),
+    (
+        "SYSTEM e { INTERFACE { } IMPLEMENTATION { } }",
+        "0 columns, 0 rows",
+    ),
+    (
+        "SYSTEM v { INTERFACE { PARAMETER { } OUTPUT { } } IMPLEMENTATION { } }",
+        "0 columns, 0 rows",
+    ),
+    (
+        "SYSTEM v { INTERFACE { INPUT { BOOL a; } } IMPLEMENTATION { AUX { } MUST { } AD { } } }",
+        "1 columns, 0 rows",
+    ),
+    (
+        "/* \u{ff} */ SYSTEM e{INTERFACE{STATE{}}IMPLEMENTATION{CONTINUOUS{}}} // end",
+        "0 columns, 0 rows",
+    ),
     (INTEGRATOR, "2 columns, 0 rows"),
     (
         "SYSTEM e { INTERFACE { STATE { } } IMPLEMENTATION { MUST { } } }",
@@ -497,7 +344,7 @@ const ROWS: [(&str, &str); 46] = [
 fn rows(rt: HostRuntime) -> Result<(), Fail> {
     let alloc = rt.alloc();
     for (text, wanted) in ROWS {
-        let got = described(alloc, text)?;
+        let got = described(alloc, text.as_bytes())?;
         assert_eq!(rt; got.as_str(), wanted, "{text}");
     }
     Ok(())
@@ -526,39 +373,131 @@ fn tolerances(rt: HostRuntime) -> Result<(), Fail> {
     Ok(())
 }
 
-// A chain of 199 auxiliaries, each defined by the one that is declared after it.
-#[test]
-fn long_chain(rt: HostRuntime) -> Result<(), Fail> {
-    let alloc = rt.alloc();
+// What is made of a size.
+#[derive(Clone, Copy, Debug)]
+enum Sized {
+    // So many blanks.
+    Bytes,
+    // So many semicolons.
+    Tokens,
+    // A name in so many parentheses.
+    Nesting,
+    // So many items that say the same sum of 500 names, and then one with four nodes and one with five. Each bound is a
+    // node, and a sum of n names has 2 * n - 1 nodes.
+    Nodes,
+    More,
+    // A sum of 500 names behind so many signs.
+    Expression,
+    // So many inputs.
+    Names,
+    // A chain of so many auxiliaries, each defined by the one that is declared after it.
+    Chain,
+}
+
+const LIMITS: [(Sized, u32, &str); 15] = [
+    (Sized::Bytes, 1_048_576, "4 1:1048577"),
+    (Sized::Bytes, 1_048_577, "18 Bytes"),
+    (Sized::Tokens, 16_384, "4 1:1"),
+    (Sized::Tokens, 16_385, "18 Tokens"),
+    (Sized::Nesting, 64, "1 columns, 0 rows"),
+    (Sized::Nesting, 65, "18 Nesting"),
+    (Sized::Nodes, 0, "1 columns, 0 rows"),
+    // The second item, after 80 and 2,003 characters, defines the name again.
+    (Sized::Nodes, 4, "14 1:2084"),
+    (Sized::More, 0, "1 columns, 0 rows"),
+    (Sized::More, 4, "18 Nodes"),
+    (Sized::Expression, 1, "1 columns, 0 rows"),
+    (Sized::Expression, 2, "18 Expression"),
+    (Sized::Names, 200, "200 columns, 0 rows"),
+    (Sized::Names, 201, "18 Names"),
+    (Sized::Chain, 199, "200 columns, 398 rows"),
+];
+
+// A source of a state x with these items in CONTINUOUS.
+fn stepping(alloc: Global, items: &str) -> Result<String, AllocError> {
+    format!(in alloc;
+        "SYSTEM n {{ INTERFACE {{ STATE {{ REAL x [0, 1]; }} }} IMPLEMENTATION {{ CONTINUOUS {{ {items} }} }} }}"
+    )
+}
+
+fn nested(alloc: Global, count: u32) -> Result<String, AllocError> {
+    let open = repeated(alloc, "(", count)?;
+    let close = repeated(alloc, ")", count)?;
+    let item = format!(in alloc; "x = {open}x{close};")?;
+    stepping(alloc, item.as_str())
+}
+
+fn summed(alloc: Global, count: u32, last: &str) -> Result<String, AllocError> {
+    let sum = repeated(alloc, " + x", 499)?;
+    let item = format!(in alloc; "x = x{sum}; ")?;
+    let items = repeated(alloc, item.as_str(), count)?;
+    let items = format!(in alloc; "{items}{last}")?;
+    stepping(alloc, items.as_str())
+}
+
+fn signed(alloc: Global, count: u32) -> Result<String, AllocError> {
+    let signs = repeated(alloc, "- ", count)?;
+    let sum = repeated(alloc, " + x", 499)?;
+    let item = format!(in alloc; "x = {signs}x{sum};")?;
+    stepping(alloc, item.as_str())
+}
+
+fn inputs(alloc: Global, count: u32) -> Result<String, AllocError> {
+    let mut names = String::new(alloc);
+    for number in 0..count {
+        let name = format!(in alloc; "BOOL a{number}; ")?;
+        names.push_str(name.as_str())?;
+    }
+    format!(in alloc; "SYSTEM n {{ INTERFACE {{ INPUT {{ {names} }} }} IMPLEMENTATION {{ }} }}")
+}
+
+fn chained(alloc: Global, count: u32) -> Result<String, AllocError> {
     let mut items = String::new(alloc);
     let mut names = String::new(alloc);
-    for number in 0..198 {
-        let next = number + 1;
+    for number in 1..count {
+        let next = number.wrapping_add(1);
         let item = format!(in alloc; "z{number} = z{next}; ")?;
         items.push_str(item.as_str())?;
         let name = format!(in alloc; "z{number}, ")?;
         names.push_str(name.as_str())?;
     }
-    let text = format!(in alloc;
-        "SYSTEM n {{ INTERFACE {{ STATE {{ REAL x [0, 1]; }} }} IMPLEMENTATION {{ AUX {{ REAL {names}z198; }} LINEAR {{ {items}z198 = x; }} CONTINUOUS {{ x = z0; }} }} }}"
-    )?;
-    assert_eq!(rt; judged(alloc, text.as_bytes()), Answer::System);
-    Ok(())
+    format!(in alloc;
+        "SYSTEM n {{ INTERFACE {{ STATE {{ REAL x [0, 1]; }} }} IMPLEMENTATION {{ AUX {{ REAL {names}z{count}; }} LINEAR {{ {items}z{count} = x; }} CONTINUOUS {{ x = z1; }} }} }}"
+    )
+}
+
+fn sized(alloc: Global, what: Sized, count: u32) -> Result<String, AllocError> {
+    match what {
+        Sized::Bytes => repeated(alloc, " ", count),
+        Sized::Tokens => repeated(alloc, ";", count),
+        Sized::Nesting => nested(alloc, count),
+        Sized::Nodes => summed(alloc, count, "x = -x;"),
+        Sized::More => summed(alloc, count, "x = x + x;"),
+        Sized::Expression => signed(alloc, count),
+        Sized::Names => inputs(alloc, count),
+        Sized::Chain => chained(alloc, count),
+    }
 }
 
 #[test]
-fn limit_on_names(rt: HostRuntime) -> Result<(), Fail> {
+fn limits(rt: HostRuntime) -> Result<(), Fail> {
     let alloc = rt.alloc();
-    for (count, wanted) in [(200, Answer::System), (201, Answer::Over(LimitKind::Names))] {
-        let mut names = String::new(alloc);
-        for number in 0..count {
-            let name = format!(in alloc; "BOOL a{number}; ")?;
-            names.push_str(name.as_str())?;
-        }
-        let text = format!(in alloc;
-            "SYSTEM n {{ INTERFACE {{ INPUT {{ {names} }} }} IMPLEMENTATION {{ }} }}"
-        )?;
-        assert_eq!(rt; judged(alloc, text.as_bytes()), wanted, "{count}");
+    for (what, count, wanted) in LIMITS {
+        let text = sized(alloc, what, count)?;
+        let got = described(alloc, text.as_bytes())?;
+        assert_eq!(rt; got.as_str(), wanted, "{what:?} {count}");
     }
+    Ok(())
+}
+
+// Any byte may stand in a comment.
+#[test]
+fn comments(rt: HostRuntime) -> Result<(), Fail> {
+    let alloc = rt.alloc();
+    let mut text = b"/*x*/ ".to_vec(alloc)?;
+    text[2] = 255;
+    text.extend_from_slice(INTEGRATOR.as_bytes())?;
+    let got = described(alloc, &text)?;
+    assert_eq!(rt; got.as_str(), "2 columns, 0 rows");
     Ok(())
 }
