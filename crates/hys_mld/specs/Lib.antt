@@ -7,3 +7,4 @@ pub mod Columns
 pub mod Forms
 pub mod Lines
 pub mod Assembled
+pub mod Example
