@@ -1,8 +1,6 @@
 -- The intervals along an order are the only ones that are those of the definitions over themselves.
-use Rattle.std.proofs.Common.{◌≡◌, ℕ, zero, suc, ◌+◌, ◌<◌, ◌≤◌, List, [], ◌∷◌, Bool, true, false, cond, length, get_or, set, length-set, get_or-set_same, get_or-set_other, refl, sym, ◌∙◌, ap, ap₂, subst, arith, inl, inr, ◌⊎◌, Option, Some, None}
+use Rattle.std.proofs.Common.{◌≡◌, ℕ, zero, suc, ◌+◌, ◌<◌, ◌≤◌, List, [], ◌∷◌, Bool, true, false, cond, length, set, length-set, get_or-set_same, get_or-set_other, refl, sym, ◌∙◌, ap, ap₂, subst, arith, inl, inr, ◌⊎◌, Some}
 use Rattle.std.specs.Prelude.{◌↔◌}
-use Rattle.std.specs.List.{AllByRecursion}
-use Rattle.std.proofs.lemmas.Bool.{cases_eq}
 use Rattle.std.proofs.lemmas.List.{ext_get_or}
 use Rattle.hys_number.specs.Number.{Number}
 use Rattle.hys_number.specs.Ops.{whole, ◌+ₙ◌, ◌*ₙ◌}
@@ -19,11 +17,11 @@ use Rattle.hys_prog.specs.declared.program.Program.{Program}
 use Rattle.hys_prog.specs.declared.program.Order.{Order}
 use Rattle.hys_prog.specs.Programs.{NameAt, is_named}
 use Rattle.hys_prog.specs.Steps.{EachNameFrom, places, is_auxiliary}
-use Rattle.hys_prog.specs.Orders.{HasTerm, MentionedIn, SomeItem, Leads, IsIn, IsNone, IsFirst, IsReady, IsOrderAfter, IsOrder}
+use Rattle.hys_prog.specs.Orders.{HasTerm, MentionedIn, SomeItem, Leads, IsIn, IsFirst, IsReady, IsOrderAfter, IsOrder}
 use Rattle.hys_prog.proofs.Defined.{name_below, some_named}
 use Rattle.hys_prog.proofs.Names.{IsAuxiliary, name_map, name_both, name_never, place_of, aux_at}
 use Rattle.hys_prog.proofs.Members.{each_of, none_in, first_in, first_holds}
-use Rattle.hys_bound.specs.Ranges.{range, hull, unit, defined_interval, interval_at, place_in, with_interval, found, declared, declared_interval, intervals}
+use Rattle.hys_bound.specs.Ranges.{range, hull, defined_interval, interval_at, place_in, with_interval, found, declared, declared_interval, intervals}
 use Rattle.hys_bound.specs.Fixed.{own_interval, AreFixed}
 use Rattle.hys_bound.proofs.Turns.{declared_count}
 

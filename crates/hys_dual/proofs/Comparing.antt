@@ -3,17 +3,16 @@ use Rattle.std.proofs.Common.{◌≡◌, ℕ, suc, ◌+◌, ◌<◌, ◌≤◌, 
 use Rattle.std.specs.Ordering.{MatchOrdering}
 use Rattle.std.specs.declared.cmp.Ordering.{Ordering}
 use Rattle.hys_number.specs.Number.{Number}
-use Rattle.hys_number.specs.Ops.{◌*ₙ◌, ◌/ₙ◌, ◌<ₙ◌, neg, inverse, whole}
+use Rattle.hys_number.specs.Ops.{◌*ₙ◌, ◌/ₙ◌, ◌<ₙ◌, neg, whole}
 use Rattle.hys_number.proofs.Field.{parts, parts_of, ratios}
 use Rattle.hys_number.proofs.Laws.{whole-ratio}
 use Rattle.hys_number.proofs.Ring.{by_ring, v, k, minus, ◌⊗◌}
 use Rattle.hys_number.proofs.Scale.{overs, common2, common2_of}
-use Rattle.hys_number.proofs.Order.{lt_irrefl}
 use Rattle.hys_relax.specs.Node.{Boxes}
 use Rattle.hys_relax.specs.LinearProgram.{LinearProgram}
 use Rattle.hys_simplex.specs.Tableau.{Tableau}
-use Rattle.hys_simplex.specs.Status.{Rises, is_raised_above, raised}
-use Rattle.hys_simplex.specs.Rule.{IsMovable, MayEnter, ratio, raised_sign, IsEntering}
+use Rattle.hys_simplex.specs.Status.{is_raised_above, raised}
+use Rattle.hys_simplex.specs.Rule.{IsMovable, MayEnter, ratio, raised_sign}
 use Rattle.hys_simplex.proofs.Lex.{rises_trans, rises_irrefl, above_not_zero}
 use Rattle.hys_simplex.proofs.Shows.{first_place}
 use Rattle.hys_dual.specs.declared.end.End.{End}

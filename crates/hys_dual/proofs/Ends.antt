@@ -1,7 +1,7 @@
 -- What a choice says, and the end of a relaxation carried from a table to the tableau after its path.
-use Rattle.std.proofs.Common.{◌≡◌, ℕ, ◌+◌, ◌-◌, ◌<◌, ◌≤◌, sym, ◌∙◌, ap, subst, arith, List, [], ◌∷◌, ◌++◌, length}
+use Rattle.std.proofs.Common.{◌≡◌, ℕ, ◌+◌, ◌-◌, ◌<◌, ◌∙◌, ap, subst, arith, List, [], ◌∷◌, ◌++◌, length}
 use Rattle.std.proofs.lemmas.List.{length-append}
-use Rattle.hys_number.specs.Ops.{whole, fits}
+use Rattle.hys_number.specs.Ops.{fits}
 use Rattle.hys_lin.specs.Problem.{IsProblem}
 use Rattle.hys_lin.specs.Ranges.{box_at}
 use Rattle.hys_lin.specs.declared.form.Interval.{Interval}
@@ -17,7 +17,6 @@ use Rattle.hys_simplex.specs.Alike.{IsAlike}
 use Rattle.hys_simplex.specs.Laws.{IsReached}
 use Rattle.hys_simplex.proofs.Alike.{all_inside_alike, point_alike, cost_pairs_alike, row_pairs_alike}
 use Rattle.hys_simplex.proofs.AlikeRules.{blocked_alike, unfit_alike}
-use Rattle.hys_simplex.proofs.Rules.{ruled_cell}
 use Rattle.hys_tab.specs.Fits.{IsFirstUnfit}
 use Rattle.hys_tab.specs.Table.{Table, tableau_of}
 use Rattle.hys_dual.specs.Choosing.{IsFinish, IsChoice}
@@ -26,7 +25,7 @@ use Rattle.hys_dual.specs.declared.finish.Finish.{Finish}
 use Rattle.hys_dual.specs.declared.finish.Finish.TheVariants.{Least, Never, Stuck}
 use Rattle.hys_dual.specs.declared.finish.Choice.{Choice}
 use Rattle.hys_dual.specs.declared.finish.Choice.TheVariants.{Pivot, Done}
-use Rattle.hys_dual.proofs.Goings.{warm_reached, same_boxes, ruled_after, one_added, few_added}
+use Rattle.hys_dual.proofs.Goings.{warm_reached, same_boxes, few_added}
 
 -- ---- choices
 pub chosen_ruled : (p : Problem) (B : Boxes) (T : Tableau) (q : Choice) (r c : ℕ) → IsChoice p B T q → q ≡ Pivot r c → IsRuled (linear_program p) B T r c

@@ -1,5 +1,5 @@
 -- Points of statuses, their rows' sums, and the ends of a relaxation over boxes and a tableau.
-use Rattle.std.proofs.Common.{◌≡◌, ℕ, zero, suc, ◌+◌, ◌<◌, ◌≤◌, ◌⊎◌, inl, inr, refl, sym, ◌∙◌, ap, subst, arith, if◌then◌else◌, nat_eq, List, [], ◌∷◌, ◌++◌, length, get_or, Some, None, Bool, true, false, Result, Err}
+use Rattle.std.proofs.Common.{◌≡◌, ℕ, suc, ◌+◌, ◌<◌, ◌≤◌, ◌⊎◌, inl, inr, refl, sym, ◌∙◌, ap, subst, arith, if◌then◌else◌, List, [], ◌∷◌, ◌++◌, length, get_or, Some, None, Bool, true, false, Result, Err}
 use Rattle.std.specs.List.{AllByRecursion}
 use Rattle.std.proofs.lemmas.List.Elements.{All-get_or}
 use Rattle.std.proofs.lemmas.List.{get_or_default}
@@ -23,16 +23,15 @@ use Rattle.hys_relax.specs.Node.{Boxes}
 use Rattle.hys_relax.specs.LinearProgram.{LinearProgram, linear_program, row_at}
 use Rattle.hys_relax.specs.Bound.{costless, AreLawful}
 use Rattle.hys_relax.specs.BoundSum.{bound_operations}
-use Rattle.hys_relax.specs.declared.range.TablePlace.TheVariants.{Sum, Value}
-use Rattle.hys_simplex.specs.Tableau.{Tableau, IsOf, IsPlaced, cost_multiplier}
+use Rattle.hys_relax.specs.declared.range.TablePlace.TheVariants.{Sum}
+use Rattle.hys_simplex.specs.Tableau.{Tableau, IsOf, IsPlaced}
 use Rattle.hys_simplex.specs.Status.{status_value, basic_value, end_value, values_to, AllInside}
-use Rattle.hys_simplex.specs.Rule.{IsLeaving, IsBlocked, IsRuled}
-use Rattle.hys_simplex.specs.Unfit.{SomeUnfit, point_operations, row_pairs, cost_pairs, pairs_to, UnfitAt}
+use Rattle.hys_simplex.specs.Rule.{IsBlocked}
+use Rattle.hys_simplex.specs.Unfit.{SomeUnfit, point_operations, row_pairs, cost_pairs, UnfitAt}
 use Rattle.hys_simplex.specs.Laws.{AreOrdered, IsReached, RowShowsNone}
 use Rattle.hys_simplex.proofs.Paths.{values_outside}
 use Rattle.hys_simplex.proofs.Ranges.{basic_is}
 use Rattle.hys_simplex.proofs.Pairs.{values_long}
-use Rattle.hys_simplex.specs.Status.{status_point}
 use Rattle.hys_simplex.specs.Laws.{CostRowShows}
 use Rattle.hys_simplex.proofs.Shown.{lost_is_unfit, blocked_row, cost_row}
 use Rattle.hys_tab.specs.Table.{multipliers_of}

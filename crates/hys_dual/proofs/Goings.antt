@@ -1,19 +1,18 @@
 -- A table that pivots by the rule over a node's boxes: it stays alike to the tableau after its path.
-use Rattle.std.proofs.Common.{◌≡◌, ℕ, suc, ◌+◌, ◌-◌, ◌<◌, ◌≤◌, ◌==◌, refl, sym, ◌∙◌, ap, subst, arith, if◌then◌else◌, List, [], ◌∷◌, ◌++◌, length, take, ◌⊎◌, inl, inr}
+use Rattle.std.proofs.Common.{◌≡◌, ℕ, ◌+◌, ◌<◌, ◌≤◌, ◌==◌, refl, sym, ◌∙◌, ap, subst, arith, if◌then◌else◌, List, [], ◌∷◌, ◌++◌, length, take, ◌⊎◌, inl, inr}
 use Rattle.std.proofs.Math.Path.{fun_ext}
 use Rattle.std.proofs.lemmas.List.{length-append, append-nil, append_assoc}
 use Rattle.hys_number.specs.Number.{Number}
 use Rattle.hys_number.specs.Ops.{◌+ₙ◌, ◌*ₙ◌, whole}
-use Rattle.hys_number.specs.Sums.{sum_to}
 use Rattle.hys_number.proofs.Sums.{sum_to-same}
 use Rattle.hys_lin.specs.Problem.{IsProblem}
 use Rattle.hys_lin.specs.Ranges.{box_at}
 use Rattle.hys_lin.specs.declared.form.Interval.{Interval}
 use Rattle.hys_lin.specs.declared.problem.Problem.{Problem}
-use Rattle.hys_relax.specs.Node.{Boxes, node_boxes}
+use Rattle.hys_relax.specs.Node.{node_boxes}
 use Rattle.hys_relax.specs.LinearProgram.{LinearProgram, linear_program}
 use Rattle.hys_relax.specs.declared.fixing.Fixing.{Fixing}
-use Rattle.hys_simplex.specs.Tableau.{Tableau, IsOf, start, line, coef, mix, pivot, after}
+use Rattle.hys_simplex.specs.Tableau.{Tableau, IsOf, start, line, coef, mix, pivot}
 use Rattle.hys_simplex.specs.Rule.{IsRuled}
 use Rattle.hys_simplex.specs.Path.{IsPathAt, IsRun, tableau_after, status_count}
 use Rattle.hys_simplex.specs.Alike.{IsAlike}
@@ -22,7 +21,6 @@ use Rattle.hys_simplex.proofs.Alike.{alike_sym, alike_trans, line_alike, coef_al
 use Rattle.hys_simplex.proofs.AlikeRules.{feasible_alike, ruled_alike}
 use Rattle.hys_simplex.proofs.NodePaths.{levels_ordered, path_on}
 use Rattle.hys_simplex.proofs.Runs.{run_grows, after_append}
-use Rattle.hys_simplex.proofs.Rules.{ruled_cell}
 use Rattle.hys_simplex.proofs.Shown.{path_reaches, ends, no_status_twice}
 use Rattle.hys_tab.specs.Table.{Table, tableau_of}
 use Rattle.hys_dual.specs.Relaxing.{IsWarmAt, GoesOn}

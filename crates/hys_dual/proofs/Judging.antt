@@ -1,5 +1,5 @@
 -- Comparing numbers, and the ranges of variables.
-use Rattle.std.proofs.Common.{◌≡◌, ℕ, ◌⊎◌, inl, inr, ◌↔◌, refl, sym, ◌∙◌, subst, Bool, true, false, IsTrue, Option, Some, None, Less, Equal, Greater}
+use Rattle.std.proofs.Common.{◌≡◌, ℕ, ◌⊎◌, inl, inr, ◌↔◌, sym, ◌∙◌, subst, Bool, true, false, IsTrue, Option, Some, None, Less, Equal, Greater}
 use Rattle.std.specs.Ordering.{MatchOrdering}
 use Rattle.std.specs.declared.cmp.Ordering.{Ordering}
 use Rattle.hys_number.specs.Number.{Number}

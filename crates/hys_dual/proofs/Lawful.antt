@@ -1,6 +1,5 @@
 -- The laws, put together.
-use Rattle.std.proofs.Common.{◌≡◌, sym, subst}
-use Rattle.hys_lin.specs.Sums.{at, value}
+use Rattle.std.proofs.Common.{sym, subst}
 use Rattle.hys_number.specs.Ops.{◌≤ₙ◌}
 use Rattle.hys_relax.specs.Bound.{plain_bound}
 use Rattle.hys_simplex.proofs.NodePaths.{path_below}

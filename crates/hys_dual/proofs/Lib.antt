@@ -13,3 +13,4 @@ pub mod Goings
 pub mod Ends
 pub mod Solved
 pub mod Lawful
+pub mod Samples

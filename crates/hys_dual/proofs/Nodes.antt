@@ -1,8 +1,7 @@
 -- The boxes of a node, written from the last fixing to the first.
-use Rattle.std.proofs.Common.{◌≡◌, ◌≢◌, ℕ, zero, suc, ◌+◌, ◌-◌, ◌<◌, ◌⊎◌, inl, inr, refl, sym, ◌∙◌, ap, subst, arith, Bool, true, false, cond, nat_eq, List, [], ◌∷◌, length, drop, get_or, slice_index_or, slice_set}
-use Rattle.std.specs.List.{AllByRecursion}
+use Rattle.std.proofs.Common.{◌≡◌, ℕ, zero, suc, ◌<◌, inl, inr, sym, ◌∙◌, ap, arith, cond, List, [], ◌∷◌, length, drop, get_or, slice_set}
 use Rattle.std.proofs.Math.Seq.{drop-cons}
-use Rattle.std.proofs.lemmas.List.{drop_all, get_or-set_same, get_or-set_other, get_or_default}
+use Rattle.std.proofs.lemmas.List.{drop_all, get_or-set_same, get_or-set_other}
 use Rattle.hys_number.specs.Ops.{whole}
 use Rattle.hys_number.proofs.Bools.{eq_true, eq_false}
 use Rattle.hys_lin.specs.Bits.{bit}
@@ -10,7 +9,7 @@ use Rattle.hys_lin.specs.Problem.{IsProblem}
 use Rattle.hys_lin.specs.Ranges.{box_at}
 use Rattle.hys_lin.specs.declared.form.Interval.{Interval}
 use Rattle.hys_lin.specs.declared.problem.Problem.{Problem}
-use Rattle.hys_relax.specs.Node.{IsNode, box_under, node_boxes, only}
+use Rattle.hys_relax.specs.Node.{IsNode, box_under, only}
 use Rattle.hys_relax.specs.declared.fixing.Fixing.{Fixing}
 use Rattle.hys_relax.proofs.Nodes.{there}
 use Rattle.hys_simplex.proofs.Pivots.{same_place}

@@ -7,7 +7,7 @@ use Rattle.hys_number.proofs.Order.{le_antisymm}
 use Rattle.hys_number.proofs.Ring.{by_ring, k, minus}
 use Rattle.hys_relax.specs.LinearProgram.{LinearProgram}
 use Rattle.hys_simplex.specs.Tableau.{Tableau, IsOf}
-use Rattle.hys_simplex.specs.Status.{raised, is_positive, is_raised_above, IsPositive}
+use Rattle.hys_simplex.specs.Status.{raised, is_positive, is_raised_above}
 use Rattle.hys_simplex.proofs.Lex.{neg_above, positive_not_null}
 use Rattle.hys_simplex.proofs.Pivots.{same_place}
 use Rattle.hys_simplex.proofs.Ranges.{test_yes, test_is, test_down}

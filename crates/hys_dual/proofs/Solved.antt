@@ -1,6 +1,5 @@
 -- The answer to an end is true of the node.
-use Rattle.std.proofs.Common.{◌≡◌, ℕ, refl, sym, ◌∙◌, ap, subst, List, [], length}
-use Rattle.hys_number.specs.Number.{Number}
+use Rattle.std.proofs.Common.{◌≡◌, ℕ, refl, sym, ◌∙◌, ap, subst, List}
 use Rattle.hys_number.specs.Ops.{◌≤ₙ◌, ◌<ₙ◌, whole}
 use Rattle.hys_lin.specs.Problem.{IsProblem}
 use Rattle.hys_lin.specs.Sums.{at, value}

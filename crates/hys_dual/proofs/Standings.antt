@@ -1,5 +1,5 @@
 -- Where each variable stands, row by row and column by column.
-use Rattle.std.proofs.Common.{◌≡◌, ◌≢◌, ℕ, ◌+◌, ◌<◌, ◌≤◌, ◌⊎◌, inl, inr, refl, sym, ◌∙◌, ap, ap₂, subst, arith, List, length, Bool, if◌then◌else◌, slice_index_or}
+use Rattle.std.proofs.Common.{◌≡◌, ◌≢◌, ℕ, ◌+◌, ◌<◌, ◌⊎◌, inl, inr, sym, ◌∙◌, ap, ap₂, subst, arith, List, Bool, if◌then◌else◌, slice_index_or}
 use Rattle.hys_simplex.specs.Tableau.{Tableau, IsPlaced}
 use Rattle.hys_number.specs.Number.{Number}
 use Rattle.hys_relax.specs.Node.{Boxes}

@@ -1,5 +1,5 @@
 -- Sums of multipliers: partial sums and the operations that are still to come.
-use Rattle.std.proofs.Common.{◌≡◌, ℕ, zero, suc, ◌+◌, ◌<◌, ◌≤◌, ◌⊎◌, inl, inr, refl, sym, ◌∙◌, ap, ap₂, subst, arith, add-one, Bool, true, false, cond, nat_eq, List, [], ◌∷◌, ◌++◌, length, drop, get_or, Option, Some, None}
+use Rattle.std.proofs.Common.{◌≡◌, ℕ, zero, suc, ◌+◌, ◌<◌, ◌≤◌, ◌⊎◌, inl, inr, refl, sym, ◌∙◌, ap, ap₂, subst, arith, add-one, true, false, cond, nat_eq, List, [], ◌∷◌, ◌++◌, length, drop, get_or, Option, Some, None}
 use Rattle.std.proofs.Math.Seq.{drop-cons}
 use Rattle.std.proofs.lemmas.List.{drop_all}
 use Rattle.hys_number.specs.Number.{Number}
@@ -8,7 +8,7 @@ use Rattle.hys_number.specs.Sums.{sum_to}
 use Rattle.hys_number.proofs.Sums.{sum_to-same}
 use Rattle.hys_number.proofs.Ring.{by_ring, v, k, ◌⊕◌, ◌⊖◌, ◌⊗◌}
 use Rattle.hys_lin.specs.Operations.{first_lost, times, plus, minus, sum_by, summing}
-use Rattle.std.proofs.Common.{Result, Ok, Err}
+use Rattle.std.proofs.Common.{Result, Err}
 use Rattle.hys_lin.specs.declared.lost.LinFault.{LinFault}
 use Rattle.hys_lin.specs.declared.lost.LinFault.TheVariants.{Memory, Lost as Shown}
 use Rattle.hys_lin.specs.Scaled.{coefficient, AnswersLost}

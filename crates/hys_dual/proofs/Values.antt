@@ -1,8 +1,8 @@
 -- Basic values, column by column.
-use Rattle.std.proofs.Common.{◌≡◌, ℕ, zero, suc, ◌+◌, ◌<◌, ◌⊎◌, inl, inr, refl, sym, ◌∙◌, ap, ap₂, subst, arith, Bool, true, false, not, ◌||◌, IsTrue, List, [], ◌∷◌, ◌++◌, Some}
+use Rattle.std.proofs.Common.{◌≡◌, ℕ, zero, suc, ◌+◌, ◌<◌, ◌⊎◌, inl, inr, refl, sym, ◌∙◌, ap, ap₂, subst, arith, Bool, true, false, not, ◌||◌, List, [], ◌∷◌, ◌++◌, Some}
 use Rattle.std.specs.List.{list_any}
 use Rattle.hys_number.specs.Number.{Number}
-use Rattle.hys_number.specs.Ops.{◌+ₙ◌, ◌-ₙ◌, ◌*ₙ◌, fits, whole}
+use Rattle.hys_number.specs.Ops.{◌-ₙ◌, ◌*ₙ◌, fits}
 use Rattle.hys_number.specs.Sums.{sum_to}
 use Rattle.hys_number.proofs.Bools.{or_true}
 use Rattle.hys_number.proofs.Ring.{by_ring, v, k, ◌⊕◌, ◌⊖◌}

@@ -1,9 +1,8 @@
 -- How the pivots at a node end, as the code finds it, over boxes and a tableau.
-use Rattle.std.specs.Prelude.{◌≡◌, ℕ, ◌<◌, ◌≤◌, Bool, true, false, List, None}
+use Rattle.std.specs.Prelude.{◌≡◌, ℕ, ◌<◌, Bool, true, false, List, None}
 use Rattle.hys_number.specs.Number.{Number}
 use Rattle.hys_number.specs.Ops.{fits}
 use Rattle.hys_lin.specs.Operations.{first_lost}
-use Rattle.hys_lin.specs.Sums.{at}
 use Rattle.hys_lin.specs.declared.lost.Lost.{Lost}
 use Rattle.hys_lin.specs.declared.problem.Problem.{Problem}
 use Rattle.hys_relax.specs.Node.{Boxes}

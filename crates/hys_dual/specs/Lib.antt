@@ -7,3 +7,4 @@ pub mod Costs
 pub mod Relaxing
 pub mod Choosing
 pub mod Laws
+pub mod Cases

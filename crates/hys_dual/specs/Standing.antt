@@ -1,7 +1,6 @@
 -- Where each variable of a tableau stands, and the ends at which those outside the basis stand.
-use Rattle.std.specs.Prelude.{◌≡◌, ℕ, ◌+◌, ◌<◌, List, false}
+use Rattle.std.specs.Prelude.{◌≡◌, ℕ, ◌+◌, ◌<◌, List}
 use Rattle.std.proofs.Common.{get_or}
-use Rattle.hys_number.specs.Ops.{whole}
 use Rattle.hys_relax.specs.Node.{Boxes}
 use Rattle.hys_relax.specs.LinearProgram.{LinearProgram}
 use Rattle.hys_simplex.specs.Tableau.{Tableau}

@@ -30,7 +30,8 @@ pub fn bound_sum(
     requires lawful { AreLawful problem.now pairs.now }
     ensures value { let p = with_cost problem.now cost.now constant in
         let d = summed_coefficient p pairs.now in
-        IfOk result (λ z. z ≡ summed_ends (summed_constant p pairs.now) d (box_at boxes.now) (length problem.now.boxes)) }
+        let start = summed_constant p pairs.now in
+        IfOk result (λ z. z ≡ summed_ends start d (box_at boxes.now) (length problem.now.boxes)) }
     ensures lost { let p = with_cost problem.now cost.now constant in
         AnswersLost result (bound_operations p (box_at boxes.now) pairs.now) }
 {
@@ -71,7 +72,8 @@ fn coefficient(
     column: usize,
 ) -> Result<Frac, Lost>
     requires lawful { AreLawful problem.now pairs.now }
-    ensures value { IfOk result (λ r. r ≡ summed_coefficient (with_cost problem.now cost.now constant) pairs.now column) }
+    ensures value { let p = with_cost problem.now cost.now constant in
+        IfOk result (λ r. r ≡ summed_coefficient p pairs.now column) }
     ensures lost { let p = with_cost problem.now cost.now constant in
         result_err result ≡ first_lost (coefficient_operations p pairs.now column) }
 {
@@ -124,7 +126,8 @@ fn constant_sum(
 // From the start each coefficient times the end of its box that makes the product less.
 fn ends_sum(start: Frac, coefficients: &[Frac], boxes: &[Interval]) -> Result<Frac, Lost>
     requires { length boxes.now ≡ length coefficients.now }
-    ensures value { IfOk result (λ r. r ≡ summed_ends start (number_at coefficients.now) (box_at boxes.now) (length boxes.now)) }
+    ensures value { let d = number_at coefficients.now in
+        IfOk result (λ r. r ≡ summed_ends start d (box_at boxes.now) (length boxes.now)) }
     ensures lost { let os = end_operations start (number_at coefficients.now) (box_at boxes.now) (length boxes.now) in
         result_err result ≡ first_lost os }
 {

@@ -86,7 +86,8 @@ fn left(
     requires stands { AllStand (tableau_of tableau.now) stands.now }
     requires long { length stands.now ≡ length tableau.now.outsides + length tableau.now.basics }
     requires ends { ends.now ≡ ends_of (linear_program problem.now) (box_at boxes.now) (tableau_of tableau.now) }
-    requires leaving { IsLeaving (linear_program problem.now) (box_at boxes.now) (tableau_of tableau.now) off.row (side_of off.under) off.near }
+    requires leaving { let P = linear_program problem.now in
+        IsLeaving P (box_at boxes.now) (tableau_of tableau.now) off.row (side_of off.under) off.near }
     ensures { IfOk result (λ q. IsChoice problem.now (box_at boxes.now) (tableau_of tableau.now) q) }
 {
     match entering(problem, boxes, tableau, stands, ends, off.row, off.under) {
@@ -152,7 +153,8 @@ fn never(
     requires reached { IsReached (linear_program problem.now) (tableau_of tableau.now) }
     requires stands { AllStand (tableau_of tableau.now) stands.now }
     requires long { length stands.now ≡ length tableau.now.outsides + length tableau.now.basics }
-    requires blocked { IsBlocked (linear_program problem.now) (box_at boxes.now) (tableau_of tableau.now) off.row (side_of off.under) off.near }
+    requires blocked { let P = linear_program problem.now in
+        IsBlocked P (box_at boxes.now) (tableau_of tableau.now) off.row (side_of off.under) off.near }
     ensures { IfOk result (λ f. IsFinish problem.now (box_at boxes.now) (tableau_of tableau.now) f) }
 {
     let multipliers = row_multipliers(alloc, problem, tableau, stands, off.row, off.under)?;

@@ -158,7 +158,8 @@ fn is_less(
     requires second { second < length tableau.now.outsides }
     requires first_cell { (tableau_of tableau.now).cell row first ≢ whole 0 }
     requires second_cell { (tableau_of tableau.now).cell row second ≢ whole 0 }
-    ensures { IsTrue result ↔ IsLess (linear_program problem.now) (tableau_of tableau.now) row (side_of under) first second }
+    ensures { let P = linear_program problem.now in
+        IsTrue result ↔ IsLess P (tableau_of tableau.now) row (side_of under) first second }
 {
     for place in 0..tableau.columns() + 1 {
         match cmp_at(problem, tableau, stands, row, under, first, second, place) {
@@ -191,7 +192,9 @@ fn cmp_at(
     requires first_cell { (tableau_of tableau.now).cell row first ≢ whole 0 }
     requires second_cell { (tableau_of tableau.now).cell row second ≢ whole 0 }
     ensures { let f = ratio (linear_program problem.now) (tableau_of tableau.now) row (side_of under) in
-        MatchOrdering result (f first place <ₙ f second place) (f first place ≡ f second place) (f second place <ₙ f first place) }
+        let a = f first place in
+        let b = f second place in
+        MatchOrdering result (a <ₙ b) (a ≡ b) (b <ₙ a) }
 {
     let over_first = raised_cell(problem, tableau, stands, first, place);
     let over_second = raised_cell(problem, tableau, stands, second, place);

@@ -6,6 +6,8 @@ mod bound;
 mod choice;
 mod end;
 mod entering;
+#[cfg(test)]
+mod examples;
 mod finish;
 pub mod laws;
 mod multipliers;
@@ -19,6 +21,8 @@ mod relaxed;
 mod run;
 mod solver;
 mod stand;
+#[cfg(test)]
+mod tests;
 mod warm;
 
 pub use relaxed::Relaxed;

@@ -55,7 +55,8 @@ fn row_multiplier(
     requires long { length stands.now ≡ length tableau.now.outsides + length tableau.now.basics }
     requires row { row < length tableau.now.basics }
     requires slack { slack < length tableau.now.basics }
-    ensures { result ≡ row_multiplier_of (linear_program problem.now) (tableau_of tableau.now) row (side_of under) slack }
+    ensures { let P = linear_program problem.now in
+        result ≡ row_multiplier_of P (tableau_of tableau.now) row (side_of under) slack }
 {
     match stands[tableau.columns() + slack as usize] {
         Stand::Basic(other) => sided(under, indicator(other == row)),

@@ -85,8 +85,10 @@ pub fn basic_value(
 ) -> Option<Frac>
     requires row { row < length tableau.now.basics }
     requires ends { ends.now ≡ ends_of (linear_program problem.now) (box_at boxes.now) (tableau_of tableau.now) }
-    ensures value { IfSome result (λ x. x ≡ basic_value_of (linear_program problem.now) (box_at boxes.now) (tableau_of tableau.now) row) }
-    ensures unfit { IsNone result → SomeUnfit fits (value_operations (linear_program problem.now) (box_at boxes.now) (tableau_of tableau.now) row) }
+    ensures value { let P = linear_program problem.now in
+        IfSome result (λ x. x ≡ basic_value_of P (box_at boxes.now) (tableau_of tableau.now) row) }
+    ensures unfit { let P = linear_program problem.now in
+        IsNone result → SomeUnfit fits (value_operations P (box_at boxes.now) (tableau_of tableau.now) row) }
 {
     let mut sum = tableau.cell(row, tableau.columns() as u32);
     for column in 0..tableau.columns() {

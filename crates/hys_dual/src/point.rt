@@ -64,8 +64,10 @@ fn status_value(
     requires long { length stands.now ≡ length tableau.now.outsides + length tableau.now.basics }
     requires ends { ends.now ≡ ends_of (linear_program problem.now) (box_at boxes.now) (tableau_of tableau.now) }
     requires column { column < length tableau.now.outsides }
-    ensures value { IfOk result (λ x. x ≡ status_value_of (linear_program problem.now) (box_at boxes.now) (tableau_of tableau.now) column) }
-    ensures unfit { IfErr result (λ i. IsRowUnfit (linear_program problem.now) (box_at boxes.now) (tableau_of tableau.now) i) }
+    ensures value { let P = linear_program problem.now in
+        IfOk result (λ x. x ≡ status_value_of P (box_at boxes.now) (tableau_of tableau.now) column) }
+    ensures unfit { let P = linear_program problem.now in
+        IfErr result (λ i. IsRowUnfit P (box_at boxes.now) (tableau_of tableau.now) i) }
 {
     match stands[column] {
         Stand::Basic(row) => match basic_value(problem, boxes, tableau, ends, row) {

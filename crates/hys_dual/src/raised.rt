@@ -82,7 +82,8 @@ pub fn ends(
     requires boxes { length boxes.now ≡ length problem.now.boxes }
     requires stands { AllStand (tableau_of tableau.now) stands.now }
     requires long { length stands.now ≡ length tableau.now.outsides + length tableau.now.basics }
-    ensures { IfOk result (λ es. es.items ≡ ends_of (linear_program problem.now) (box_at boxes.now) (tableau_of tableau.now)) }
+    ensures { let P = linear_program problem.now in
+        IfOk result (λ es. es.items ≡ ends_of P (box_at boxes.now) (tableau_of tableau.now)) }
 {
     let mut ends = Vec::new(alloc);
     for column in 0..tableau.columns() {

@@ -28,7 +28,8 @@ pub fn run(
     requires warm { IsWarmAt problem.now fixings.now tableau.old path.old.items }
     ensures path { IfOk result (λ _. GoesOn problem.now fixings.now path.old.items path.new.items) }
     ensures warm { IfOk result (λ _. IsWarmAt problem.now fixings.now tableau.new path.new.items) }
-    ensures finish { IfOk result (λ f. IsFinish problem.now (node_boxes_of problem.now fixings.now) (tableau_after problem.now path.new.items) f) }
+    ensures finish { let B = node_boxes_of problem.now fixings.now in
+        IfOk result (λ f. IsFinish problem.now B (tableau_after problem.now path.new.items) f) }
 {
     loop {
         match choose(alloc, problem, boxes, tableau)? {

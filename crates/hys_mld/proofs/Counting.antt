@@ -1,19 +1,17 @@
 -- How many fresh columns items have.
 use Rattle.std.proofs.Common.{◌≡◌, ℕ, zero, suc, ◌+◌, ◌<◌, ◌≤◌, List, [], ◌∷◌, ◌++◌, length, get_or, drop, refl, sym, ap, ap₂, subst, arith}
-use Rattle.hys_formula.specs.Formulas.{FormulaTree, tree_of, EachName}
+use Rattle.hys_formula.specs.Formulas.{tree_of}
 use Rattle.hys_prog.specs.declared.program.Body.{Body}
 use Rattle.hys_prog.specs.declared.program.Body.TheVariants.{Guard, Choice, Logic, Linear, NextBool, NextReal, OutBool, OutReal, MustHold, MustMost, MustZero}
 use Rattle.hys_prog.specs.declared.program.Name.{Name}
 use Rattle.hys_prog.specs.declared.program.ProgItem.{ProgItem}
-use Rattle.hys_prog.specs.Programs.{NameAt, IsBooleanVariable, BodyOver, EachItem, body_connectives, items_weight}
+use Rattle.hys_prog.specs.Programs.{BodyOver, EachItem, body_connectives, items_weight}
 use Rattle.hys_prog.proofs.Walking.{drop_here}
-use Rattle.hys_logic.specs.declared.usage.Use.{Use}
 use Rattle.hys_logic.specs.declared.usage.Use.TheVariants.{Read, Define, Require}
 use Rattle.hys_logic.specs.Literals.{column_in}
-use Rattle.hys_logic.specs.Uses.{fresh_count}
-use Rattle.hys_logic.proofs.Used.{same_count, fresh_few}
-use Rattle.hys_logic.proofs.Truths.{name_more}
-use Rattle.hys_rows.specs.Items.{fresh_in}
+use Rattle.hys_logic.proofs.Used.{fresh_few}
+use Rattle.hys_rows.specs.Items.{fresh_in, AreAlike}
+use Rattle.hys_rows.proofs.Worked.{counts_alike}
 use Rattle.hys_mld.specs.Fresh.{fresh_of_items}
 
 -- ---- few
@@ -38,29 +36,9 @@ fresh_few_items columns (t ∷ ts) =
     omega arith
 
 -- ---- the same
--- the columns have the same entries at Boolean names
-pub record SameBooleans (names : List Name) (cs ds : List ℕ) : Type 0 where
-  pub same : (n : ℕ) → NameAt names n IsBooleanVariable → column_in cs n ≡ column_in ds n
-
-pub count_same : (names : List Name) (cs ds : List ℕ) (u : Use) (f : FormulaTree) → SameBooleans names cs ds → EachName (λ n. NameAt names n IsBooleanVariable) f → fresh_count u (column_in cs) f ≡ fresh_count u (column_in ds) f
-count_same names cs ds u f s h = same_count u (column_in cs) (column_in ds) f (name_more (λ n. NameAt names n IsBooleanVariable) (λ n. column_in cs n ≡ column_in ds n) f (λ n k. s.same n k) h)
-
-pub fresh_in_same : (names : List Name) (cs ds : List ℕ) (b : Body) → SameBooleans names cs ds → BodyOver names b → fresh_in cs b ≡ fresh_in ds b
-fresh_in_same names cs ds (Guard f e) s h = refl
-fresh_in_same names cs ds (Choice l a b) s h = count_same names cs ds Read (tree_of l) s h.0
-fresh_in_same names cs ds (Logic l) s h = count_same names cs ds (Define 0) (tree_of l) s h
-fresh_in_same names cs ds (Linear f) s h = refl
-fresh_in_same names cs ds (NextBool l) s h = count_same names cs ds Read (tree_of l) s h
-fresh_in_same names cs ds (NextReal f) s h = refl
-fresh_in_same names cs ds (OutBool l) s h = count_same names cs ds Read (tree_of l) s h
-fresh_in_same names cs ds (OutReal f) s h = refl
-fresh_in_same names cs ds (MustHold l) s h = count_same names cs ds Require (tree_of l) s h
-fresh_in_same names cs ds (MustMost f) s h = refl
-fresh_in_same names cs ds (MustZero f) s h = refl
-
-pub fresh_items_same : (names : List Name) (cs ds : List ℕ) (ts : List ProgItem) → SameBooleans names cs ds → EachItem (λ t. BodyOver names t.body) ts → fresh_of_items cs ts ≡ fresh_of_items ds ts
+pub fresh_items_same : (names : List Name) (cs ds : List ℕ) (ts : List ProgItem) → AreAlike names cs ds → EachItem (λ t. BodyOver names t.body) ts → fresh_of_items cs ts ≡ fresh_of_items ds ts
 fresh_items_same names cs ds [] s h = refl
-fresh_items_same names cs ds (t ∷ ts) s h = ap₂ (λ a b. a + b) (fresh_in_same names cs ds t.body s h.0) (fresh_items_same names cs ds ts s h.1)
+fresh_items_same names cs ds (t ∷ ts) s h = ap₂ (λ a b. a + b) (counts_alike names cs ds t.body h.0 s) (fresh_items_same names cs ds ts s h.1)
 
 -- ---- one item more
 pub fresh_here : (columns : List ℕ) (ts : List ProgItem) (i : ℕ) (t : ProgItem) → i < length ts → t ≡ get_or ts i t → fresh_of_items columns (drop i ts) ≡ fresh_in columns t.body + fresh_of_items columns (drop (suc i) ts)

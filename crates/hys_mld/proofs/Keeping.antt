@@ -34,14 +34,14 @@ use Rattle.hys_exact.proofs.Exactness.{exact_system}
 use Rattle.hys_exact.proofs.Lawful.{lawful_system}
 use Rattle.hys_exact.proofs.Names.{HasPlace, each_in, has_place, name_at, Stands}
 use Rattle.hys_exact.proofs.Placing.{columns_length, placing_below, boolean_below, placing_differ}
-use Rattle.hys_rows.specs.Items.{IsItem, fresh_in}
+use Rattle.hys_rows.specs.Items.{AreAlike, IsItem, fresh_in}
 use Rattle.hys_rows.specs.Parts.{part_of, stated_in}
 use Rattle.hys_mld.specs.Assembled.{IsAssembled}
 use Rattle.hys_mld.specs.Fresh.{fresh_of, fresh_of_items, name_columns}
 use Rattle.hys_mld.specs.Lines.{AreLines, AreAdded, ItemsFit, all_rows, all_labels, items_forms}
 use Rattle.hys_mld.specs.Placing.{placing_of}
 use Rattle.hys_mld.specs.Stated.{AreStated, items_stated}
-use Rattle.hys_mld.proofs.Counting.{SameBooleans, fresh_items_same}
+use Rattle.hys_mld.proofs.Counting.{fresh_items_same}
 use Rattle.hys_mld.proofs.Sorts.{is_placing}
 
 -- ---- the parts of the items
@@ -181,8 +181,8 @@ boolean_same p f g n k =
     let b : column_in (placing_of p g) n ≡ k.0 = subst (λ (m : ℕ). column_in (placing_of p g) m ≡ k.0) k.2 ((is_placing p g).before k.0 k.1) in
     a ∙ sym b
 
-pub same_booleans : (p : Program) (f g : ℕ) → SameBooleans p.names (placing_of p f) (placing_of p g)
-same_booleans p f g = record { same = λ n h. boolean_same p f g n (boolean_at p f n h (has_place p n (name_map IsBooleanVariable IsVariable p.names n (λ x k. k.0) h))) }
+pub same_booleans : (p : Program) (f g : ℕ) → AreAlike p.names (placing_of p f) (placing_of p g)
+same_booleans p f g n h = boolean_same p f g n (boolean_at p f n h (has_place p n (name_map IsBooleanVariable IsVariable p.names n (λ x k. k.0) h)))
 
 pub fresh_same : (p : Program) → IsProgram p → fresh_of_items (name_columns p) p.items ≡ fresh_of p
 fresh_same p g = fresh_items_same p.names (name_columns p) (placing_of p 0) p.items (same_booleans p (fresh_of p) 0) g.bodies

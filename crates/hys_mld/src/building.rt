@@ -106,7 +106,8 @@ fn assemble(
     requires program { IsProgram program.now }
     requires boxes { length boxes.now ≡ length program.now.names }
     requires forms { length lines.forms.items ≡ length program.now.items }
-    ensures { IfOk result (λ s. IsAssembled program.now boxes.now fresh lines.rows.items lines.labels.items lines.forms.items s) }
+    ensures { IfOk result (λ s.
+        IsAssembled program.now boxes.now fresh lines.rows.items lines.labels.items lines.forms.items s) }
 {
     let Lines {
         rows,

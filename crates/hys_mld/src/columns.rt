@@ -100,7 +100,8 @@ fn add_columns(
     columns: &mut Vec<Column>,
 ) -> Result<(), AllocError>
     requires { length boxes.now ≡ length names.now }
-    ensures { OnOk result (columns.new.items ≡ columns.old.items ++ of_each (is_of_sort sort) (sort_column sort boxes.now) 0 names.now) }
+    ensures { OnOk result (columns.new.items ≡
+        columns.old.items ++ of_each (is_of_sort sort) (sort_column sort boxes.now) 0 names.now) }
 {
     for (n, name) in names.iter().enumerate() {
         if is_of(sort, name) {

@@ -90,7 +90,8 @@ pub fn write_lines(
 ) -> Result<Lines, BuildFault>
     requires fit { ItemsFit names.now boxes.now columns.now first items.now }
     requires room { first + items_weight items.now < 2 ^ 32 }
-    ensures lines { IfOk result (λ l. AreLines names.now boxes.now columns.now first items.now l.rows.items l.labels.items l.forms.items) }
+    ensures lines { IfOk result (λ l.
+        AreLines names.now boxes.now columns.now first items.now l.rows.items l.labels.items l.forms.items) }
     ensures judged { Judged (items_numbers boxes.now columns.now first 0 items.now) result }
 {
     let mut rows = Vec::new(alloc);

@@ -12,3 +12,6 @@ mod placing;
 
 pub use building::build;
 pub use fault::BuildFault;
+
+#[cfg(test)]
+mod tests;

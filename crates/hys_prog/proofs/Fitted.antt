@@ -1,5 +1,5 @@
 -- The partial values of a step, and first stops.
-use Rattle.std.proofs.Common.{◌≡◌, ℕ, zero, suc, List, [], ◌∷◌, ◌++◌, Option, Some, None, Bool, true, false, cond, length, refl, sym, ◌∙◌, ap, subst, inl, inr, ◌⊎◌, Result, Ok, Err}
+use Rattle.std.proofs.Common.{◌≡◌, ℕ, suc, List, [], ◌∷◌, ◌++◌, Option, Some, None, Bool, true, false, cond, length, refl, sym, ◌∙◌, ap, subst, inl, inr, ◌⊎◌, Result, Ok, Err}
 use Rattle.std.specs.Prelude.{IsTrue, ◌↔◌}
 use Rattle.std.specs.List.{AllByRecursion}
 use Rattle.hys_number.specs.Number.{Number}
@@ -28,7 +28,6 @@ use Rattle.hys_prog.specs.Stops.{Check, GivenWhere, IsValued, Judged, first_stop
 use Rattle.hys_prog.specs.Walk.{exact, walk_checks}
 use Rattle.hys_prog.specs.Fitting.{BodyFits, FittingStep, FailsFirst, IsFirstStop}
 use Rattle.hys_prog.proofs.Defined.{each_at}
-use Rattle.hys_prog.proofs.Placing.{name_map}
 use Rattle.hys_prog.proofs.Assigning.{split_name, part_in, in_order}
 use Rattle.hys_prog.proofs.Valuing.{Stands, suits_defined, each_of, exact_valued}
 use Rattle.hys_prog.proofs.Judging.{first_here, none_lawful, lawful_fit, fit_none, walk_stops, lawful_legal, legal_lawful, step_valued}

@@ -27,7 +27,8 @@ use Rattle.hys_prog.specs.Stops.{Check, IsValued, Judged, first_stop, at_most, e
 use Rattle.hys_prog.specs.Walk.{Gives, found_checks, started, exact, walk_checks, after_checks}
 use Rattle.hys_prog.proofs.Defined.{at_item, each_at, some_named}
 use Rattle.hys_prog.proofs.Deciding.{most_yes, yes_most, equal_yes, yes_equal, or_parts, or_left, or_right, box_yes, yes_box, sides}
-use Rattle.hys_prog.proofs.Placing.{name_map, first_at, in_part, state_defined, output_defined}
+use Rattle.hys_prog.proofs.Names.{name_map}
+use Rattle.hys_prog.proofs.Placing.{first_at, in_part, state_defined, output_defined}
 use Rattle.hys_prog.proofs.Walking.{checks_here, started_count}
 use Rattle.hys_prog.proofs.Reading.{AllRead, Same, same_along, same_demands, same_numbers, all_read, named_suits}
 use Rattle.hys_prog.proofs.Assigning.{is_fixed, found_same, in_order}

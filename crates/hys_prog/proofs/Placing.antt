@@ -1,5 +1,5 @@
 -- The places of names and of the items that define them.
-use Rattle.std.proofs.Common.{◌≡◌, ℕ, zero, suc, ◌+◌, ◌<◌, List, [], ◌∷◌, Option, Some, None, Bool, true, false, cond, length, get_or, refl, subst, arith, inl, inr, eq-eqb}
+use Rattle.std.proofs.Common.{◌≡◌, ℕ, zero, suc, ◌+◌, ◌<◌, List, [], ◌∷◌, Bool, true, false, cond, length, get_or, refl, subst, arith, inl, inr}
 use Rattle.std.specs.List.{AllByRecursion}
 use Rattle.hys_prog.specs.declared.program.Role.{Role}
 use Rattle.hys_prog.specs.declared.program.Role.TheVariants.{State, Input, Output, Parameter, Aux}
@@ -8,22 +8,15 @@ use Rattle.hys_prog.specs.declared.program.ProgItem.{ProgItem}
 use Rattle.hys_prog.specs.declared.program.Program.{Program}
 use Rattle.hys_prog.specs.declared.program.Order.{Order}
 use Rattle.hys_prog.specs.Programs.{IsProgram, NameAt, definitions, is_named, is_defined}
-use Rattle.hys_prog.specs.Steps.{places, places_from, is_auxiliary, is_state, is_output}
-use Rattle.hys_prog.specs.Orders.{IsIn, IsFirst, IsReady, IsOrderAfter, IsOrder}
+use Rattle.hys_prog.specs.Steps.{places, is_auxiliary, is_state, is_output}
+use Rattle.hys_prog.specs.Orders.{IsIn, IsReady, IsOrderAfter, IsOrder}
 use Rattle.hys_prog.specs.Places.{ItemAt, Defines, ArePlaces}
 use Rattle.hys_prog.specs.Walk.{IsFirstAt, IsPlaced}
 use Rattle.hys_prog.proofs.Defined.{name_below}
+pub use Rattle.hys_prog.proofs.Names.{name_map, named_some, at_count, at_place, aux_defined}
+use Rattle.hys_prog.proofs.Members.{all_of, first_in}
 
 -- ---- the one item that defines a name
-pub named_some : (n : ℕ) (o : Option ℕ) → o ≡ Some n → is_named n o ≡ true
-named_some n None e = absurd (cc)
-named_some n (Some m) e = let q : m ≡ n = cc in eq-eqb m n q
-
-at_count : (n : ℕ) (ts : List ProgItem) (k : ℕ) → ItemAt ts k (Defines n) → 0 < definitions n ts
-at_count n [] k h = absurd h
-at_count n (t ∷ ts) zero h = rw (named_some n t.name h) (omega arith)
-at_count n (t ∷ ts) (suc k) h = let l = at_count n ts k h in omega arith
-
 pub first_at : (n : ℕ) (ts : List ProgItem) (k : ℕ) → definitions n ts ≡ 1 → ItemAt ts k (Defines n) → IsFirstAt ts k n
 first_at n [] k d h = h
 first_at n (t ∷ ts) zero d h = named_some n t.name h
@@ -39,35 +32,11 @@ placed p ps n h a l d =
     record { within = omega arith; first = first_at n p.items (get_or ps n 0) (h.once n d) (a n d) }
 
 -- ---- the places of the names of a role
-pub name_map : (P Q : Name → Type 0) (xs : List Name) (n : ℕ) → ((x : Name) → P x → Q x) → NameAt xs n P → NameAt xs n Q
-name_map P Q [] n f h = absurd h
-name_map P Q (x ∷ xs) zero f h = f x h
-name_map P Q (x ∷ xs) (suc n) f h = name_map P Q xs n f h
-
-at_place : (part : Role → Bool) (k n : ℕ) (xs : List Name) → IsIn n (places_from k part xs) → (i : ℕ) × (n ≡ k + i) × NameAt xs i (λ x. part x.role ≡ true)
-at_place part k n [] h = absurd h
-at_place part k n (x ∷ xs) h = go (part x.role) refl h (λ h. at_place part (suc k) n xs h)
-  where
-    later : ((i : ℕ) × (n ≡ suc k + i) × NameAt xs i (λ x. part x.role ≡ true)) → (i : ℕ) × (n ≡ k + i) × NameAt (x ∷ xs) i (λ x. part x.role ≡ true)
-    later r = let e : n ≡ suc k + r.0 = r.1 in (suc r.0, omega arith, r.2)
-
-    go : (b : Bool) → part x.role ≡ b → IsIn n (cond b (k ∷ places_from (suc k) part xs) (places_from (suc k) part xs)) → (IsIn n (places_from (suc k) part xs) → (i : ℕ) × (n ≡ suc k + i) × NameAt xs i (λ x. part x.role ≡ true)) → (i : ℕ) × (n ≡ k + i) × NameAt (x ∷ xs) i (λ x. part x.role ≡ true)
-    go true e (inl q) f = (0, omega arith, e)
-    go true e (inr h) f = later (f h)
-    go false e h f = later (f h)
-
 pub in_part : (part : Role → Bool) (p : Program) (n : ℕ) → IsIn n (places part p) → NameAt p.names n (λ x. part x.role ≡ true)
 in_part part p n i =
     let r = at_place part 0 n p.names i in
     let q : r.0 ≡ n = (let z : n ≡ 0 + r.0 = r.1 in omega arith) in
     subst (λ (i : ℕ). NameAt p.names i (λ x. part x.role ≡ true)) q r.2
-
-pub aux_defined : (r : Role) → is_auxiliary r ≡ true → is_defined r ≡ true
-aux_defined State e = absurd (cc)
-aux_defined Input e = absurd (cc)
-aux_defined Output e = absurd (cc)
-aux_defined Parameter e = absurd (cc)
-aux_defined Aux e = refl
 
 pub state_defined : (r : Role) → is_state r ≡ true → is_defined r ≡ true
 state_defined State e = refl
@@ -83,10 +52,6 @@ output_defined Output e = refl
 output_defined Parameter e = absurd (cc)
 output_defined Aux e = absurd (cc)
 
-pub all_of : (P : ℕ → Type 0) (ns : List ℕ) → ((n : ℕ) → IsIn n ns → P n) → AllByRecursion P ns
-all_of P [] f = tt
-all_of P (n ∷ ns) f = (f n (inl refl), all_of P ns (λ m h. f m (inr h)))
-
 pub part_placed : (part : Role → Bool) (p : Program) (ps : List ℕ) → ((r : Role) → part r ≡ true → is_defined r ≡ true) → IsProgram p → ArePlaces p ps → length ps ≡ length p.names → AllByRecursion (IsPlaced p.items ps) (places part p)
 part_placed part p ps d h a l = all_of (IsPlaced p.items ps) (places part p) (λ n i. placed p ps n h a l (name_map (λ (x : Name). part x.role ≡ true) (λ (x : Name). is_defined x.role ≡ true) p.names n (λ x e. d x.role e) (in_part part p n i)))
 
@@ -97,11 +62,6 @@ pub outputs_placed : (p : Program) (ps : List ℕ) → IsProgram p → ArePlaces
 outputs_placed p ps h a l = part_placed is_output p ps output_defined h a l
 
 -- ---- the names of an order
-first_in : (P : ℕ → Type 0) (xs : List ℕ) (n : ℕ) → IsFirst P n xs → IsIn n xs
-first_in P [] n h = absurd h
-first_in P (x ∷ xs) n (inl h) = inl h.1
-first_in P (x ∷ xs) n (inr h) = inr (first_in P xs n h.1)
-
 pub order_auxiliary : (p : Program) (taken ns : List ℕ) (n : ℕ) → IsOrderAfter p taken ns → IsIn n ns → NameAt p.names n (λ x. is_auxiliary x.role ≡ true)
 order_auxiliary p taken [] n h i = absurd i
 order_auxiliary p taken (m ∷ ns) n h (inl e) = subst (λ (i : ℕ). NameAt p.names i (λ x. is_auxiliary x.role ≡ true)) e (in_part is_auxiliary p m (first_in (IsReady p taken) (places is_auxiliary p) m h.0))

@@ -25,7 +25,8 @@ use Rattle.hys_prog.specs.Stops.{IsValued, at_most, number_of, number_in}
 use Rattle.hys_prog.specs.Walk.{started, started_from, first_value, advanced, exact}
 use Rattle.hys_prog.proofs.Defined.{some_named, at_item, each_at}
 use Rattle.hys_prog.proofs.Deciding.{yes_most, no_most, sides}
-use Rattle.hys_prog.proofs.Placing.{name_map, first_at}
+use Rattle.hys_prog.proofs.Names.{name_map}
+use Rattle.hys_prog.proofs.Placing.{first_at}
 use Rattle.hys_prog.proofs.Walking.{first_number, started_count}
 use Rattle.hys_prog.proofs.Reading.{IsAuxBody, aux_suits, named_suits}
 use Rattle.hys_prog.proofs.Assigning.{is_fixed, Is, Follows, Agrees, found_agrees, found_follows, fixed_kept}

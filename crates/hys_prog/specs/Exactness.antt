@@ -4,8 +4,7 @@ use Rattle.hys_number.specs.Number.{Number}
 use Rattle.hys_lin.specs.Sums.{Assignment}
 use Rattle.hys_prog.specs.declared.program.Program.{Program}
 use Rattle.hys_prog.specs.declared.program.Order.{Order}
-use Rattle.hys_prog.specs.Programs.{IsProgram, NameAt}
-use Rattle.hys_prog.specs.Orders.{IsOrder}
+use Rattle.hys_prog.specs.Programs.{NameAt}
 use Rattle.hys_prog.specs.Steps.{places, is_state, is_input, is_output, Step, Legal}
 use Rattle.hys_prog.specs.Stops.{AllFit, Check, IsLawful, IsValued, first_stop, part_numbers, stops}
 

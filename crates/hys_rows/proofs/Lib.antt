@@ -4,3 +4,4 @@ pub mod Placing
 pub mod Meaning
 pub mod Whole
 pub mod Worked
+pub mod Trying

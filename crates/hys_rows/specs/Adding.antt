@@ -41,7 +41,8 @@ IsPlacedFormula columns k l = HaveColumns columns k (tree_of l)
 
 -- what is needed of the body whose fresh columns begin at k and whose name has the column z
 abbrev pub IsPlacedBody : List Interval → List ℕ → ℕ → ℕ → Body → Type 0
-IsPlacedBody boxes columns k z (Guard f e) = (whole 0 <ₙ e) × IsPlaced columns f × IsBoxed boxes f × IsApart z (moved columns f)
+IsPlacedBody boxes columns k z (Guard f e) =
+    (whole 0 <ₙ e) × IsPlaced columns f × IsBoxed boxes f × IsApart z (moved columns f)
 IsPlacedBody boxes columns k z (Choice l a b) =
     IsPlacedFormula columns k l × IsApart z (literal_form columns k l)
     × IsPlaced columns a × IsBoxed boxes a × IsApart z (moved columns a)
@@ -125,3 +126,6 @@ BodyBelow columns k z (MustZero f) n = FormBelow (moved columns f) n
 -- the rows of the body were added
 abbrev pub AddsBody : List Interval → List ℕ → ℕ → ℕ → Body → List Row → List Row → Type 0
 AddsBody boxes columns k z b old new = AddsRows (body_stated boxes columns k z b) (BodyBelow columns k z b) old new
+
+abbrev pub AddsChoice : List Interval → List ℕ → ℕ → ℕ → Formula → Affine → Affine → List Row → List Row → Type 0
+AddsChoice boxes columns k z l a b old new = AddsBody boxes columns k z (Choice l a b) old new

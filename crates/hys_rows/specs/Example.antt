@@ -29,4 +29,5 @@ abbrev pub guard_operations : List Operation
 guard_operations =
     times (make (negsuc 0) 1) (whole 10) ∷ plus (whole 5) (make (negsuc 9) 1)
     ∷ times (make (negsuc 0) 1) (whole 0) ∷ plus (whole 5) (whole 0)
-    ∷ minus (make (negsuc 4) 1) (make (pos 1) 1000) ∷ minus (whole 5) (whole 5) ∷ minus (whole 5) (make (pos 1) 1000) ∷ []
+    ∷ minus (make (negsuc 4) 1) (make (pos 1) 1000)
+    ∷ minus (whole 5) (whole 5) ∷ minus (whole 5) (make (pos 1) 1000) ∷ []

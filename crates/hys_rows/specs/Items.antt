@@ -44,11 +44,16 @@ FormulaWithin columns (MustHold l) = NamesWithin columns (tree_of l)
 FormulaWithin columns (MustMost f) = Unit {0}
 FormulaWithin columns (MustZero f) = Unit {0}
 
+-- each state, input and auxiliary has a column of its own
+abbrev pub HaveOwn : List Name → List ℕ → Type 0
+HaveOwn names columns =
+    (n m : ℕ) → NameAt names n IsVariable → NameAt names m IsVariable → column_in columns n ≡ column_in columns m → n ≡ m
+
 -- The columns of states, inputs and auxiliaries differ. Those of Boolean ones stand before the fresh columns, which are
 -- so many from k on, and those of real auxiliaries behind them.
 pub record AreColumns (names : List Name) (columns : List ℕ) (k count : ℕ) : Type 0 where
   pub long : length columns ≡ length names
-  pub differ : (n m : ℕ) → NameAt names n IsVariable → NameAt names m IsVariable → column_in columns n ≡ column_in columns m → n ≡ m
+  pub differ : HaveOwn names columns
   pub booleans : (n : ℕ) → NameAt names n IsBooleanVariable → column_in columns n < k
   pub reals : (n : ℕ) → NameAt names n (Has Aux Real) → k + count ≤ column_in columns n
 

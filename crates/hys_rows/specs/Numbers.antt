@@ -16,10 +16,14 @@ use Rattle.hys_rows.specs.declared.fault.RowFault.TheVariants.{Lost, Memory}
 use Rattle.hys_rows.specs.Moved.{moved}
 use Rattle.hys_rows.specs.Parts.{literal_form}
 
+-- those of the rows of a choice by a literal between two forms with these ranges
+abbrev pub moved_numbers : List ℕ → Affine → Affine → Interval → Affine → Interval → List Operation
+moved_numbers columns l a i b j = choice_numbers l (moved columns a) i (moved columns b) j
+
 -- those of a choice's rows, where the fresh columns of its condition begin at k
 abbrev pub chosen_numbers : List Interval → List ℕ → ℕ → Formula → Affine → Affine → List Operation
 chosen_numbers boxes columns k l a b =
-    choice_numbers (literal_form columns k l) (moved columns a) (range boxes a) (moved columns b) (range boxes b)
+    moved_numbers columns (literal_form columns k l) a (range boxes a) b (range boxes b)
 
 -- The ends of the intervals of the forms, and then the numbers of the rows. Rows of formulas, copies and demands have
 -- no number that has to be looked for: they are small, or stand in the item's form, or are such with the sign turned.

@@ -112,14 +112,24 @@ part_of columns k t rows = record {
   form = form_in columns k t.body;
 }
 
--- The rows are the stated ones, and with the fresh columns and the form they mean the item, and are sound where the
--- columns are below the number.
+-- for all names that fit, the rows with the fresh columns and the form mean the item
+abbrev pub MeanItem : List Interval → List ℕ → ℕ → ProgItem → List Row → Type 0
+MeanItem boxes columns k t rows =
+    (names : List Name) → Fits names boxes columns k t → Means names boxes columns k t (part_of columns k t rows)
+
+-- and they are sound over a number of columns where those of the names and the fresh ones are below it
+abbrev pub AreSoundFor : List Interval → List ℕ → ℕ → ProgItem → List Row → Type 0
+AreSoundFor boxes columns k t rows =
+    (names : List Name) (total : ℕ) → Fits names boxes columns k t →
+    AreBelow names columns k (fresh_in columns t.body) total → IsSound total t (part_of columns k t rows)
+
+-- The rows are the stated ones, and with the fresh columns and the form they mean the item and are sound.
 pub record IsAdded (boxes : List Interval) (columns : List ℕ) (k : ℕ) (t : ProgItem) (more : List Row) (a : Added) : Type 0 where
   pub fresh : a.fresh ≡ fresh_in columns t.body
   pub form : a.form ≡ form_in columns k t.body
   pub rows : AreRows more (stated_in boxes columns k t)
-  pub means : (names : List Name) → Fits names boxes columns k t → Means names boxes columns k t (part_of columns k t more)
-  pub sound : (names : List Name) (total : ℕ) → Fits names boxes columns k t → AreBelow names columns k (fresh_in columns t.body) total → IsSound total t (part_of columns k t more)
+  pub means : MeanItem boxes columns k t more
+  pub sound : AreSoundFor boxes columns k t more
 
 -- the rows of the item were added behind the old ones
 abbrev pub Adds : List Interval → List ℕ → ℕ → ProgItem → List Row → List Row → Added → Type 0

@@ -1,12 +1,11 @@
 ghost use Rattle.std.specs.Prelude.{◌≡◌, ◌≤◌, ◌<◌, ◌+◌, ◌^◌, IfOk, length};
 ghost use Rattle.hys_formula.specs.Formulas.{tree_of, connectives};
 ghost use Rattle.hys_prog.specs.declared.program.Body.TheVariants.{Choice};
-ghost use Rattle.hys_guard.specs.Numbers.{choice_numbers};
 ghost use Rattle.hys_rows.specs.Items.{fresh_in};
 ghost use Rattle.hys_rows.specs.Moved.{moved as moved_form};
-ghost use Rattle.hys_rows.specs.Numbers.{Judged, numbers_of};
+ghost use Rattle.hys_rows.specs.Numbers.{Judged, moved_numbers, numbers_of};
 ghost use Rattle.hys_rows.specs.Parts.{literal_form, no_form};
-ghost use Rattle.hys_rows.specs.Adding.{IsPlacedFormula, IsPlaced, IsBoxed, IsApart, AddsBody, AddsChosen};
+ghost use Rattle.hys_rows.specs.Adding.{IsPlacedFormula, IsPlaced, IsBoxed, IsApart, AddsChoice, AddsChosen};
 
 use crate::added::{Added, only_fresh};
 use crate::fault::RowFault;
@@ -41,7 +40,7 @@ pub fn add_choice(
     requires other_boxed { IsBoxed boxes.now other.now }
     requires other_apart { IsApart own (moved_form columns.now other.now) }
     ensures added { IfOk result (λ _.
-        AddsBody boxes.now columns.now first_free own (Choice when.now hit.now other.now) rows.old.items rows.new.items) }
+        AddsChoice boxes.now columns.now first_free own when.now hit.now other.now rows.old.items rows.new.items) }
     ensures fresh { IfOk result (λ a. a.fresh ≡ fresh_in columns.now (Choice when.now hit.now other.now)) }
     ensures form { IfOk result (λ a. a.form ≡ no_form) }
     ensures judged { Judged (numbers_of boxes.now columns.now first_free (Choice when.now hit.now other.now)) result }
@@ -75,7 +74,7 @@ fn add_chosen(
     requires other_apart { IsApart own (moved_form columns.now other.now) }
     ensures added { IfOk result (λ _.
         AddsChosen columns.now literal.now hit.now hit_range other.now other_range own rows.old.items rows.new.items) }
-    ensures judged { Judged (choice_numbers literal.now (moved_form columns.now hit.now) hit_range (moved_form columns.now other.now) other_range) result }
+    ensures judged { Judged (moved_numbers columns.now literal.now hit.now hit_range other.now other_range) result }
 {
     let first = moved(alloc, hit, columns)?;
     let second = moved(alloc, other, columns)?;

@@ -19,3 +19,6 @@ pub use added::Added;
 pub use fault::RowFault;
 pub use fresh::fresh_in;
 pub use item::add_item;
+
+#[cfg(test)]
+mod tests;

@@ -7,7 +7,6 @@ use Rattle.hys_number.specs.Ops.{whole}
 use Rattle.hys_ast.specs.declared.place.Place.{Place}
 use Rattle.hys_ast.specs.declared.tree.UnaryOp.{UnaryOp}
 use Rattle.hys_ast.specs.declared.tree.BinaryOp.{BinaryOp}
-use Rattle.hys_ast.specs.declared.tree.BinaryOp.TheVariants as binary
 use Rattle.hys_ast.specs.Tree.{Tree}
 use Rattle.hys_ast.specs.Tree as tree
 use Rattle.hys_meaning.specs.Values.{value}

@@ -2,7 +2,7 @@
 use Rattle.std.proofs.Common.{◌≡◌, List, [], ◌∷◌, ◌++◌, None, Bool, true, false, ◌&&◌, cond, map, refl, ap, ◌∙◌}
 use Rattle.hys_number.specs.Ops.{whole}
 use Rattle.hys_ast.specs.Tree.{Decl, Item}
-use Rattle.hys_meaning.specs.Names.{parameters, is_parameter}
+use Rattle.hys_meaning.specs.Names.{parameters}
 use Rattle.hys_meaning.specs.Steps.{is_given}
 use Rattle.hys_meaning.specs.Typed.{differ, is_real}
 use Rattle.hys_prog.specs.declared.program.Name.{Name as ProgName}

@@ -1,5 +1,5 @@
 -- An answer is a value where no check fails, and the first fault where one does.
-use Rattle.std.proofs.Common.{◌≡◌, List, Option, Some, None, Result, Ok, Err, ◌⊎◌, inl, inr, refl, subst}
+use Rattle.std.proofs.Common.{◌≡◌, List, Option, Some, None, Result, Ok, Err, inl, inr, refl, subst}
 use Rattle.hys_type.specs.Faults.{Check, first_fault, Answers, IsOneOrOther}
 use Rattle.hys_type.specs.declared.fault.TypeFault.{TypeFault}
 use Rattle.hys_type.specs.declared.fault.TypeFault.TheVariants as fault

@@ -1,7 +1,6 @@
 -- A source has one translation: what each of its items says leaves nothing of the body free.
 use Rattle.std.proofs.Common.{◌≡◌, ℕ, List, [], ◌∷◌, Option, Some, None, Bool, true, false, map, refl, sym, ◌∙◌, ap, ap₂}
 use Rattle.hys_number.specs.Number.{Number}
-use Rattle.hys_lin.specs.declared.form.Affine.{Affine}
 use Rattle.hys_lin.specs.declared.form.Interval.{Interval}
 use Rattle.hys_ast.specs.declared.place.Place.{Place}
 use Rattle.hys_ast.specs.declared.source.Kind.{Kind}

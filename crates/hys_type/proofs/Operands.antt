@@ -1,12 +1,9 @@
 -- Nodes and their operands.
-use Rattle.std.proofs.Common.{◌≡◌, ℕ, ◌+◌, ◌<◌, List, [], ◌∷◌, ◌++◌, Some, None, Bool, true, false, map, take, length, get_or, refl, sym, ◌∙◌, ap, subst, ◌≢◌, Err, suc, zero, cond, arith, add-one}
+use Rattle.std.proofs.Common.{◌≡◌, ℕ, ◌+◌, ◌<◌, List, [], ◌∷◌, ◌++◌, Some, None, Bool, true, false, map, take, length, get_or, refl, sym, ◌∙◌, ap, ◌≢◌, suc, zero, cond, arith, add-one}
 use Rattle.std.specs.Str.{bytes_eq}
 use Rattle.hys_meaning.specs.Names.{look}
 use Rattle.hys_number.specs.Ops.{fits, whole}
 use Rattle.hys_lin.specs.declared.lost.Lost.{Lost}
-use Rattle.hys_lin.specs.declared.lost.LinFault.{LinFault}
-use Rattle.hys_lin.specs.declared.lost.LinFault.TheVariants.{Lost as Shown}
-use Rattle.hys_lin.specs.Scaled.{AnswersLost}
 use Rattle.hys_number.specs.Number.{Number, make}
 use Rattle.hys_number.specs.Gcd.{gcd}
 use Rattle.hys_meaning.specs.Folding.{is_zero}
@@ -65,9 +62,6 @@ range_lost p (o ∷ os) l h = one (fits (outcome o)) (range_lost p os l) h
     one : (b : Bool) → (Some l ≡ first_lost os → Some (fault.Range p l) ≡ first_fault (in_range p os)) → Some l ≡ cond b (first_lost os) (Some o) → Some (fault.Range p l) ≡ cond b (first_fault (in_range p os)) (Some (fault.Range p o))
     one true k h = k h
     one false k h = cc
-
-pub range_shown : (T : Type 0) (p : Place) (os : List Lost) (e : LinFault) (l : Lost) → e ≡ Shown l → AnswersLost {T = T} (Err e) os → Some (fault.Range p l) ≡ first_fault (in_range p os)
-range_shown T p os e l h w = range_lost p os l (sym (subst (λ (x : LinFault). AnswersLost {T = T} (Err x) os) h w))
 
 -- ---- divisors
 zero_is : is_zero (whole 0) ≡ true

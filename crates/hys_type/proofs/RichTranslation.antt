@@ -1,5 +1,5 @@
 -- The rich program is the translation of the rich source.
-use Rattle.std.proofs.Common.{◌≡◌, ◌<◌, ◌∷◌, None, Option, codes, refl, sym, ◌∙◌, ap, ap₂, subst, arith, inl, inr}
+use Rattle.std.proofs.Common.{◌≡◌, ◌<◌, ◌∷◌, codes, refl, sym, ◌∙◌, ap, ap₂, subst, arith, inl, inr}
 use Rattle.std.specs.Float.Numeral.{scan_numeral}
 use Rattle.std.proofs.lemmas.Fmt.{decimal-digits_of}
 use Rattle.hys_number.specs.Number.{Number, make}
@@ -16,7 +16,7 @@ use Rattle.hys_meaning.specs.Typed.{DeclaredOnce, Typed}
 use Rattle.hys_formula.specs.declared.formula.Formula.{Formula}
 use Rattle.hys_formula.specs.Formulas.{tree_of}
 use Rattle.hys_type.specs.SameMeaning.{Translates}
-use Rattle.hys_type.specs.Translation.{guard, choice, linear, next_bool, next_real, out_bool, out_real, must_hold, must_most, must_zero, IsTranslation, IsNamedTranslation, IsNameOf, OneByOne, IsItemOf, setting}
+use Rattle.hys_type.specs.Translation.{guard, choice, linear, next_bool, next_real, out_bool, out_real, must_hold, must_most, must_zero, IsNamedTranslation, IsNameOf, OneByOne, IsItemOf, setting}
 use Rattle.hys_type.specs.RichProgram.{rich, rich_by, rich_program, when_tree, next_tree, demand_tree}
 use Rattle.hys_type.proofs.SmallTranslation.{one_is_not_zero, two_is_not_zero, minus_one_is_not_zero}
 

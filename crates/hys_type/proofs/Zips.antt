@@ -1,6 +1,6 @@
 -- Operations name by name.
-use Rattle.std.proofs.Common.{◌≡◌, ℕ, ◌+◌, ◌<◌, List, [], ◌∷◌, ◌++◌, Some, None, map, take, drop, length, get_or, refl, sym, ◌∙◌, ap, ap₂, subst, zero, suc, append_assoc, cond, Bool, true, false}
-use Rattle.std.proofs.lemmas.List.{take_more, map_push}
+use Rattle.std.proofs.Common.{◌≡◌, ℕ, ◌+◌, ◌<◌, ◌≤◌, Option, set, append-nil, arith, List, [], ◌∷◌, ◌++◌, Some, None, map, take, drop, length, get_or, refl, sym, ◌∙◌, ap, ap₂, subst, zero, suc, append_assoc, cond, Bool, true, false}
+use Rattle.std.proofs.lemmas.List.{take_more, map_push, take_all, drop_all, take_more_set, drop-set-lt}
 use Rattle.std.proofs.Math.Seq.{drop-nil}
 use Rattle.std.specs.List.{AllByRecursion}
 use Rattle.hys_number.specs.Number.{Number}
@@ -11,17 +11,23 @@ use Rattle.hys_lin.specs.Operations.{first_lost, outcome, result_of}
 use Rattle.hys_meaning.specs.Names.{Name}
 use Rattle.hys_meaning.specs.Folding.{each}
 use Rattle.hys_type.specs.Dense.{between, zipped}
+use Rattle.hys_lin.proofs.Summing.{lost_after, lost_before}
 use Rattle.hys_type.proofs.Walks.{drop_here}
+
+behind_set : (xs more : List Number) (i : ℕ) (r : Number) → more ≡ set xs i r → drop (i + 1) more ≡ drop (i + 1) xs
+behind_set xs more i r m = ap (drop (i + 1)) m ∙ drop-set-lt (i + 1) xs i r (omega arith)
 
 zip_here : {A : Type 0} (f : Number → Number → A) (xs ys : List Number) (i : ℕ) (a b : Number) → i < length xs → i < length ys → a ≡ get_or xs i a → b ≡ get_or ys i b →
     zipped f (drop i xs) (drop i ys) ≡ f a b ∷ zipped f (drop (i + 1) xs) (drop (i + 1) ys)
 zip_here f xs ys i a b h k e o = ap₂ (zipped f) (drop_here xs i a h e) (drop_here ys i b k o)
 
-pub value_here : (p : Op) (xs ys out more : List Number) (i : ℕ) (a b r : Number) → i < length xs → i < length ys → a ≡ get_or xs i a → b ≡ get_or ys i b → r ≡ result_of p a b → more ≡ out ++ r ∷ [] →
-    out ++ zipped (result_of p) (drop i xs) (drop i ys) ≡ zipped (result_of p) xs ys → more ++ zipped (result_of p) (drop (i + 1) xs) (drop (i + 1) ys) ≡ zipped (result_of p) xs ys
-value_here p xs ys out more i a b r h k e o w m v =
+-- the result at the place i, in place of the number there
+pub value_set : (p : Op) (xs ys more out : List Number) (i : ℕ) (a b r : Number) → i < length xs → i < length ys → a ≡ get_or xs i a → b ≡ get_or ys i b → r ≡ result_of p a b → more ≡ set xs i r →
+    take i xs ++ zipped (result_of p) (drop i xs) (drop i ys) ≡ out → take (i + 1) more ++ zipped (result_of p) (drop (i + 1) more) (drop (i + 1) ys) ≡ out
+value_set p xs ys more out i a b r h k e o w m v =
     let rest = zipped (result_of p) (drop (i + 1) xs) (drop (i + 1) ys) in
-    ap (λ zs. zs ++ rest) m ∙ append_assoc out (r ∷ []) rest ∙ ap (λ (x : Number). out ++ x ∷ rest) w ∙ sym (ap (λ zs. out ++ zs) (zip_here (result_of p) xs ys i a b h k e o)) ∙ v
+    ap₂ (λ (us vs : List Number). us ++ zipped (result_of p) vs (drop (i + 1) ys)) (ap (take (i + 1)) m ∙ take_more_set xs i r h) (behind_set xs more i r m)
+    ∙ append_assoc (take i xs) (r ∷ []) rest ∙ ap (λ (x : Number). take i xs ++ x ∷ rest) w ∙ sym (ap (λ zs. take i xs ++ zs) (zip_here (result_of p) xs ys i a b h k e o)) ∙ v
 
 first_fits : (o : Lost) (os : List Lost) → None ≡ first_lost (o ∷ []) → first_lost (o ∷ os) ≡ first_lost os
 first_fits o os h = by_fit (fits (outcome o)) h
@@ -37,17 +43,35 @@ first_fails o l os h = by_fit (fits (outcome o)) h
     by_fit true h = absurd (cc)
     by_fit false h = sym h
 
-pub fits_here : (p : Op) (xs ys : List Number) (i : ℕ) (a b : Number) → i < length xs → i < length ys → a ≡ get_or xs i a → b ≡ get_or ys i b → None ≡ first_lost (between p a b ∷ []) →
-    first_lost (zipped (between p) (drop i xs) (drop i ys)) ≡ first_lost (zipped (between p) xs ys) → first_lost (zipped (between p) (drop (i + 1) xs) (drop (i + 1) ys)) ≡ first_lost (zipped (between p) xs ys)
-fits_here p xs ys i a b h k e o n w =
+pub fits_set : (p : Op) (xs ys more : List Number) (i : ℕ) (a b r : Number) (o : Option Lost) → i < length xs → i < length ys → a ≡ get_or xs i a → b ≡ get_or ys i b → None ≡ first_lost (between p a b ∷ []) → more ≡ set xs i r →
+    first_lost (zipped (between p) (drop i xs) (drop i ys)) ≡ o → first_lost (zipped (between p) (drop (i + 1) more) (drop (i + 1) ys)) ≡ o
+fits_set p xs ys more i a b r o h k e q n m w =
     let rest = zipped (between p) (drop (i + 1) xs) (drop (i + 1) ys) in
-    sym (ap first_lost (zip_here (between p) xs ys i a b h k e o) ∙ first_fits (between p a b) rest n) ∙ w
+    ap (λ (vs : List Number). first_lost (zipped (between p) vs (drop (i + 1) ys))) (behind_set xs more i r m)
+    ∙ sym (ap first_lost (zip_here (between p) xs ys i a b h k e q) ∙ first_fits (between p a b) rest n) ∙ w
 
-pub lost_here : (p : Op) (xs ys : List Number) (i : ℕ) (a b : Number) (l : Lost) → i < length xs → i < length ys → a ≡ get_or xs i a → b ≡ get_or ys i b → Some l ≡ first_lost (between p a b ∷ []) →
-    first_lost (zipped (between p) (drop i xs) (drop i ys)) ≡ first_lost (zipped (between p) xs ys) → first_lost (zipped (between p) xs ys) ≡ Some l
-lost_here p xs ys i a b l h k e o n w =
+pub lost_set : (p : Op) (xs ys : List Number) (i : ℕ) (a b : Number) (l : Lost) (o : Option Lost) → i < length xs → i < length ys → a ≡ get_or xs i a → b ≡ get_or ys i b → Some l ≡ first_lost (between p a b ∷ []) →
+    first_lost (zipped (between p) (drop i xs) (drop i ys)) ≡ o → Some l ≡ o
+lost_set p xs ys i a b l o h k e q n w =
     let rest = zipped (between p) (drop (i + 1) xs) (drop (i + 1) ys) in
-    sym w ∙ ap first_lost (zip_here (between p) xs ys i a b h k e o) ∙ first_fails (between p a b) l rest n
+    sym (first_fails (between p a b) l rest n) ∙ sym (ap first_lost (zip_here (between p) xs ys i a b h k e q)) ∙ w
+
+-- no place is left
+pub all_set : {A : Type 0} (f : Number → Number → Number) (g : Number → Number → A) (xs ys out : List Number) (i : ℕ) → length xs ≡ length ys → length ys ≤ i →
+    take i xs ++ zipped f (drop i xs) (drop i ys) ≡ out → (xs ≡ out) × (zipped g (drop i xs) (drop i ys) ≡ [])
+all_set f g xs ys out i e h w =
+    let l : length xs ≤ i = omega (arith, e, h) in
+    let d : drop i xs ≡ [] = drop_all i xs l in (
+      sym (append-nil xs) ∙ sym (ap₂ (λ (us vs : List Number). us ++ zipped f vs (drop i ys)) (take_all i xs l) d) ∙ w,
+      ap (λ (us : List Number). zipped g us (drop i ys)) d,
+    )
+
+-- ---- factors and then constants
+pub lost_factors : (p : Op) (xs ys us vs : List Number) (a b : Number) (l : Lost) → us ≡ xs → vs ≡ ys → Some l ≡ first_lost (zipped (between p) us vs) → Some l ≡ first_lost (zipped (between p) xs ys ++ between p a b ∷ [])
+lost_factors p xs ys us vs a b l e k h = sym (lost_before (zipped (between p) xs ys) (between p a b ∷ []) l (sym (h ∙ ap₂ (λ (ms ns : List Number). first_lost (zipped (between p) ms ns)) e k)))
+
+pub lost_constant : (p : Op) (xs ys us vs : List Number) (a b : Number) (o : Option Lost) → us ≡ xs → vs ≡ ys → None ≡ first_lost (zipped (between p) us vs) → o ≡ first_lost (between p a b ∷ []) → o ≡ first_lost (zipped (between p) xs ys ++ between p a b ∷ [])
+lost_constant p xs ys us vs a b o e k h w = w ∙ sym (lost_after (zipped (between p) xs ys) (between p a b ∷ []) (sym (h ∙ ap₂ (λ (ms ns : List Number). first_lost (zipped (between p) ms ns)) e k)))
 
 dropped : (P : Number → Type 0) (xs : List Number) (n : ℕ) → AllByRecursion P xs → AllByRecursion P (drop n xs)
 dropped P [] n w = subst (AllByRecursion P) (sym (drop-nil n)) tt

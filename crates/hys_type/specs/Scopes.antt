@@ -14,7 +14,7 @@ use Rattle.hys_meaning.specs.Bodies.{body_in}
 use Rattle.hys_meaning.specs.Forms.{form, guard_form, guard_between, combined}
 use Rattle.hys_prog.specs.declared.program.Body.{Body}
 use Rattle.hys_type.specs.Built.{IsBuilt, body_comparisons, setting_of}
-use Rattle.hys_type.specs.Checks.{Scope, scoped, left_name, right_checks, of_kind, tolerance_checks, has_top, expression}
+use Rattle.hys_type.specs.Checks.{Scope, scoped, left_name, right_checks, of_kind}
 use Rattle.hys_type.specs.Declarations.{if_some}
 use Rattle.hys_type.specs.Faults.{Check}
 use Rattle.hys_type.specs.Operands.{seen}

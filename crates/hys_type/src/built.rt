@@ -103,7 +103,7 @@ pub fn difference(
 {
     let left = read_real(alloc, scope, left)?;
     let right = read_real(alloc, scope, right)?;
-    let form = folded(alloc, Op::Sub, &left, &right, place)?;
+    let form = folded(Op::Sub, left, &right, place)?;
     sparse(alloc, &form)
 }
 

@@ -6,13 +6,12 @@ ghost use Rattle.std.specs.List.{AllByRecursion, list_all};
 ghost use Rattle.hys_number.specs.Ops.{◌+ₙ◌, ◌-ₙ◌, ◌*ₙ◌, ◌/ₙ◌, whole};
 ghost use Rattle.hys_meaning.specs.Folding.{is_zero};
 ghost use Rattle.hys_lin.specs.Operations.{first_lost, over, minus, plus, result_of, times};
-ghost use Rattle.hys_lin.specs.Scaled.{AnswersLost};
 ghost use Rattle.hys_lin.specs.declared.lost.Op.TheVariants as operation;
 ghost use Rattle.hys_type.specs.Dense.{between, zipped, folded_by, folded_form, spread};
 
 use hys_base::List;
 use hys_frac::Frac;
-use hys_lin::{LinFault, Lost, Op, add, divide, multiply, subtract};
+use hys_lin::{Lost, Op, add, divide, multiply, subtract};
 use std::alloc::{AllocError, Global};
 
 /// A factor for each declared name in order, and a constant.
@@ -94,34 +93,42 @@ fn operate(op: Op, left: Frac, right: Frac) -> Result<Frac, Lost>
 }
 
 // The operation between the numbers at each place.
-fn pointwise(alloc: Global, op: Op, left: &[Frac], right: &[Frac]) -> Result<Vec<Frac>, LinFault>
-    requires same { length left.now ≡ length right.now }
+#[tactic(auto, using(crate::proofs::Zips::value_set, crate::proofs::Zips::fits_set, crate::proofs::Zips::lost_set, crate::proofs::Zips::all_set))]
+fn pointwise(op: Op, left: Vec<Frac>, right: &[Frac]) -> Result<Vec<Frac>, Lost>
+    requires same { length left.items ≡ length right.now }
     requires divisors { op ≡ operation.Div → AllByRecursion (λ b. b ≢ whole 0) right.now }
-    ensures value { IfOk result (λ v. v.items ≡ zipped (result_of op) left.now right.now) }
-    ensures lost { AnswersLost result (zipped (between op) left.now right.now) }
+    ensures value { IfOk result (λ v. v.items ≡ zipped (result_of op) left.items right.now) }
+    ensures lost { result_err result ≡ first_lost (zipped (between op) left.items right.now) }
 {
-    let mut results = Vec::with_capacity(alloc, left.len())?;
-    for at in 0..left.len() {
-        results.push(operate(op, left[at], right[at])?)?;
+    let mut results = left;
+    for at in 0..right.len() {
+        let number = operate(op, results[at], right[at])?;
+        results[at] = number;
     }
     Ok(results)
 }
 
 /// The operation between two forms, factor by factor and then between the constants, or the first
 /// result that doesn't fit.
-pub fn fold(alloc: Global, op: Op, left: &Dense, right: &Dense) -> Result<Dense, LinFault>
-    requires same { length left.now.factors ≡ length right.now.factors }
+#[tactic(auto, using(crate::proofs::Zips::lost_factors, crate::proofs::Zips::lost_constant))]
+pub fn fold(op: Op, left: Dense, right: &Dense) -> Result<Dense, Lost>
+    requires same { length left.factors ≡ length right.now.factors }
     requires divisors { op ≡ operation.Div → AllByRecursion (λ b. b ≢ whole 0) right.now.factors }
     requires divisor { op ≡ operation.Div → right.now.constant ≢ whole 0 }
-    ensures value { IfOk result (λ r. r ≡ folded_form op left.now right.now) }
-    ensures lost { AnswersLost result (folded_by op left.now right.now) }
+    ensures value { IfOk result (λ r. r ≡ folded_form op left right.now) }
+    ensures lost { result_err result ≡ first_lost (folded_by op left right.now) }
 {
-    let factors = pointwise(alloc, op, left.factors.items(), right.factors.items())?;
-    let constant = operate(op, left.constant, right.constant)?;
-    Ok(Dense {
-        factors: List::of(factors),
-        constant,
-    })
+    let constant = left.constant;
+    match pointwise(op, left.factors.into_vec(), right.factors.items()) {
+        Err(lost) => Err(lost),
+        Ok(factors) => match operate(op, constant, right.constant) {
+            Err(lost) => Err(lost),
+            Ok(constant) => Ok(Dense {
+                factors: List::of(factors),
+                constant,
+            }),
+        },
+    }
 }
 
 /// The form whose constant stands at each name too, beside which a product or a quotient goes name

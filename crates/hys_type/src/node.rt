@@ -28,7 +28,7 @@ use crate::scope::{Declared, is_output, is_parameter, look};
 use hys_ast::{BinaryOp, Expr, Kind, Place, UnaryOp};
 use hys_base::{List, Text};
 use hys_frac::Frac;
-use hys_lin::{LinFault, Op};
+use hys_lin::Op;
 use std::alloc::{AllocError, Global};
 
 /// What a node of an item's expression is.
@@ -183,41 +183,35 @@ fn signed(alloc: Global, op: UnaryOp, operand: Node, place: Place) -> Result<Nod
 }
 
 /// The operation between two forms, or the first number that doesn't fit, at the place.
-pub fn folded(
-    alloc: Global,
-    op: Op,
-    left: &Dense,
-    right: &Dense,
-    place: Place,
-) -> Result<Dense, TypeFault>
-    requires same { length left.now.factors ≡ length right.now.factors }
+#[tactic(auto, using(crate::proofs::Operands::range_fits, crate::proofs::Operands::range_lost))]
+pub fn folded(op: Op, left: Dense, right: &Dense, place: Place) -> Result<Dense, TypeFault>
+    requires same { length left.factors ≡ length right.now.factors }
     requires divisors { op ≡ operation.Div → AllByRecursion (λ b. b ≢ whole 0) right.now.factors }
     requires divisor { op ≡ operation.Div → right.now.constant ≢ whole 0 }
-    ensures fault { Answers result (in_range place (folded_by op left.now right.now)) }
-    ensures form { IfOk result (λ r. r ≡ folded_form op left.now right.now) }
+    ensures fault { Answers result (in_range place (folded_by op left right.now)) }
+    ensures form { IfOk result (λ r. r ≡ folded_form op left right.now) }
 {
-    match fold(alloc, op, left, right) {
+    match fold(op, left, right) {
         Ok(form) => Ok(form),
-        Err(LinFault::Lost(lost)) => Err(TypeFault::Range(place, lost)),
-        Err(LinFault::Memory) => Err(TypeFault::Memory),
+        Err(lost) => Err(TypeFault::Range(place, lost)),
     }
 }
 
 // A product, of which one side is constant.
 #[tactic(auto, using(crate::proofs::Operands::spread_length))]
-fn product(alloc: Global, left: &Dense, right: &Dense, place: Place) -> Result<Node, TypeFault>
-    requires same { length left.now.factors ≡ length right.now.factors }
-    ensures fault { Answers result (linear binary.Mul left.now right.now place
-        ++ in_range place (multiplied (has_none left.now) left.now right.now)) }
-    ensures node { IfOk result (λ n. n ≡ node.Real (product (has_none left.now) left.now right.now)) }
+fn product(alloc: Global, left: Dense, right: &Dense, place: Place) -> Result<Node, TypeFault>
+    requires same { length left.factors ≡ length right.now.factors }
+    ensures fault { Answers result (linear binary.Mul left right.now place
+        ++ in_range place (multiplied (has_none left) left right.now)) }
+    ensures node { IfOk result (λ n. n ≡ node.Real (product (has_none left) left right.now)) }
 {
-    if is_constant(left) {
-        let left = spread(alloc, left)?;
-        return Ok(Node::Real(folded(alloc, Op::Mul, &left, right, place)?));
+    if is_constant(&left) {
+        let left = spread(alloc, &left)?;
+        return Ok(Node::Real(folded(Op::Mul, left, right, place)?));
     }
     if is_constant(right) {
         let right = spread(alloc, right)?;
-        return Ok(Node::Real(folded(alloc, Op::Mul, left, &right, place)?));
+        return Ok(Node::Real(folded(Op::Mul, left, &right, place)?));
     }
     Err(TypeFault::NotLinear(place))
 }
@@ -232,11 +226,11 @@ fn is_zero(number: Frac) -> bool
 
 // A quotient, whose divisor is constant and not 0.
 #[tactic(auto, using(crate::proofs::Operands::spread_length, crate::proofs::Operands::not_zero, crate::proofs::Operands::each_divisor))]
-fn quotient(alloc: Global, left: &Dense, right: &Dense, place: Place) -> Result<Node, TypeFault>
-    requires same { length left.now.factors ≡ length right.now.factors }
-    ensures fault { Answers result (linear binary.Div left.now right.now place
-        ++ in_range place (folded_by operation.Div left.now (spread right.now))) }
-    ensures node { IfOk result (λ n. n ≡ node.Real (folded_form operation.Div left.now (spread right.now))) }
+fn quotient(alloc: Global, left: Dense, right: &Dense, place: Place) -> Result<Node, TypeFault>
+    requires same { length left.factors ≡ length right.now.factors }
+    ensures fault { Answers result (linear binary.Div left right.now place
+        ++ in_range place (folded_by operation.Div left (spread right.now))) }
+    ensures node { IfOk result (λ n. n ≡ node.Real (folded_form operation.Div left (spread right.now))) }
 {
     if !is_constant(right) {
         return Err(TypeFault::NotLinear(place));
@@ -245,36 +239,36 @@ fn quotient(alloc: Global, left: &Dense, right: &Dense, place: Place) -> Result<
         return Err(TypeFault::ZeroDivisor(place));
     }
     let right = spread(alloc, right)?;
-    Ok(Node::Real(folded(alloc, Op::Div, left, &right, place)?))
+    Ok(Node::Real(folded(Op::Div, left, &right, place)?))
 }
 
 // An operator between two real expressions; that of a comparison folds its guard number.
 fn combine(
     alloc: Global,
     op: BinaryOp,
-    left: &Dense,
-    right: &Dense,
+    left: Dense,
+    right: Dense,
     place: Place,
 ) -> Result<Node, TypeFault>
-    requires same { length left.now.factors ≡ length right.now.factors }
-    ensures fault { Answers result (real_checks op left.now right.now place) }
-    ensures node { IfOk result (λ n. n ≡ combined_node op left.now right.now) }
+    requires same { length left.factors ≡ length right.factors }
+    ensures fault { Answers result (real_checks op left right place) }
+    ensures node { IfOk result (λ n. n ≡ combined_node op left right) }
 {
     match op {
-        BinaryOp::Add => Ok(Node::Real(folded(alloc, Op::Add, left, right, place)?)),
-        BinaryOp::Sub => Ok(Node::Real(folded(alloc, Op::Sub, left, right, place)?)),
-        BinaryOp::Mul => product(alloc, left, right, place),
-        BinaryOp::Div => quotient(alloc, left, right, place),
+        BinaryOp::Add => Ok(Node::Real(folded(Op::Add, left, &right, place)?)),
+        BinaryOp::Sub => Ok(Node::Real(folded(Op::Sub, left, &right, place)?)),
+        BinaryOp::Mul => product(alloc, left, &right, place),
+        BinaryOp::Div => quotient(alloc, left, &right, place),
         BinaryOp::Most => {
-            folded(alloc, Op::Sub, left, right, place)?;
+            folded(Op::Sub, left, &right, place)?;
             Ok(Node::Bool)
         }
         BinaryOp::Least => {
-            folded(alloc, Op::Sub, right, left, place)?;
+            folded(Op::Sub, right, &left, place)?;
             Ok(Node::Bool)
         }
         BinaryOp::Equal => {
-            folded(alloc, Op::Sub, left, right, place)?;
+            folded(Op::Sub, left, &right, place)?;
             Ok(Node::Neither)
         }
         BinaryOp::And | BinaryOp::Or | BinaryOp::Iff | BinaryOp::Then | BinaryOp::From => {
@@ -314,7 +308,7 @@ fn joined(
 {
     match left {
         Node::Real(left) => match right {
-            Node::Real(right) => combine(alloc, op, &left, &right, place),
+            Node::Real(right) => combine(alloc, op, left, right, place),
             Node::Bool | Node::Neither => Err(TypeFault::Kind(place)),
         },
         Node::Bool => match right {

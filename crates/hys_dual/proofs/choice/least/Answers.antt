@@ -1,6 +1,5 @@
-use Rattle.std.proofs.Common.{◌≡◌, ◌∙◌, sym, refl, ap}
+use Rattle.std.proofs.Common.{◌∙◌, refl}
 use Rattle.hys_lin.specs.Ranges.{box_at}
-use Rattle.hys_relax.specs.LinearProgram.{linear_program}
 use Rattle.hys_tab.specs.Table.{tableau_of}
 use Rattle.hys_dual.proofs.Finishing.{cost_lawful, least_unfit, point_long, least_here, same_fitting}
 use Rattle.hys_dual.proofs.choice.least.Goals as goal

@@ -1,6 +1,5 @@
-use Rattle.std.proofs.Common.{◌≡◌, ◌∙◌, sym, refl, ap, []}
+use Rattle.std.proofs.Common.{◌∙◌, refl, []}
 use Rattle.hys_lin.specs.Ranges.{box_at}
-use Rattle.hys_relax.specs.LinearProgram.{linear_program}
 use Rattle.hys_tab.specs.Table.{tableau_of}
 use Rattle.hys_dual.specs.Ranging.{side_of}
 use Rattle.hys_dual.proofs.Finishing.{never_lawful, never_unfit, never_here, costless_fitting}

@@ -1,4 +1,4 @@
-use Rattle.std.proofs.Common.{◌≡◌, ◌<◌, ◌≤◌, ◌∙◌, arith, ap, sym, refl, length}
+use Rattle.std.proofs.Common.{arith, sym, length}
 use Rattle.hys_dual.proofs.Finishing.{row_below, cost_below, row_unfit, cost_unfit, row_terms, point_fits}
 use Rattle.hys_dual.proofs.point.lost_row.Goals as goal
 

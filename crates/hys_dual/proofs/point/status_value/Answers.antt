@@ -1,4 +1,4 @@
-use Rattle.std.proofs.Common.{◌≡◌, ◌<◌, ◌∙◌, ap, arith, subst, sym, length, slice_index_or}
+use Rattle.std.proofs.Common.{◌∙◌, ap, arith, subst, length, slice_index_or}
 use Rattle.hys_lin.specs.Ranges.{box_at}
 use Rattle.hys_relax.specs.LinearProgram.{linear_program}
 use Rattle.hys_tab.specs.Table.{tableau_of}

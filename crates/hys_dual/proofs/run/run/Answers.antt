@@ -1,4 +1,4 @@
-use Rattle.std.proofs.Common.{◌≡◌, ◌∙◌, sym, ap, subst, [], ◌∷◌, ◌++◌}
+use Rattle.std.proofs.Common.{sym, subst}
 use Rattle.hys_lin.specs.Ranges.{box_at}
 use Rattle.hys_relax.specs.LinearProgram.{linear_program}
 use Rattle.hys_simplex.specs.Rule.{IsRuled}

@@ -1,4 +1,4 @@
-use Rattle.std.proofs.Common.{◌≡◌, ◌∙◌, sym, ap, subst}
+use Rattle.std.proofs.Common.{◌∙◌, sym, ap, subst}
 use Rattle.hys_tab.specs.Table.{tableau_of}
 use Rattle.hys_dual.specs.Choosing.{answer_to}
 use Rattle.hys_dual.specs.Relaxing.{EndsAfter}
