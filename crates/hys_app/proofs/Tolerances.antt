@@ -4,7 +4,7 @@ use borrow.Author.Differences.{ints}
 use Rattle.hys_number.specs.Number.{Number, make}
 use Rattle.hys_number.specs.Gcd.{gcd}
 use Rattle.hys_number.specs.Ops.{◌*ₙ◌, ◌/ₙ◌, ◌<ₙ◌, inverse, int, whole, fits}
-use Rattle.hys_number.proofs.Signs.{whole_parts, positive_num}
+use Rattle.hys_number.proofs.Signs.{positive_num}
 use Rattle.std.specs.Ordering.{is_lt}
 use Rattle.hys_frac.specs.Compare.{number_cmp}
 use Rattle.hys_frac.proofs.Comparisons.{is_lt-cmp}

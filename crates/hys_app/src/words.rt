@@ -1,4 +1,4 @@
-ghost use Rattle.std.specs.Prelude.{◌≡◌, codes, map, string_bytes, option_map, bytes_eq, take, drop, cond, Some, None, if◌then◌else◌, IfSome};
+ghost use Rattle.std.specs.Prelude.{◌≡◌, codes, map, string_bytes, option_map, bytes_eq, take, drop, Some, None, if◌then◌else◌, IfSome};
 ghost use Rattle.hys_number.specs.Ops.{◌<ₙ◌, whole};
 ghost use Rattle.std.specs.Ordering.{is_lt};
 ghost use Rattle.hys_frac.specs.Compare.{number_cmp};

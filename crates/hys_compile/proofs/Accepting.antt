@@ -11,7 +11,7 @@ use Rattle.hys_meaning.specs.Unfolded.{unfolded}
 use Rattle.hys_bound.specs.Ranges.{first_unfit}
 use Rattle.hys_type.specs.Checks.{checks, fault_of}
 use Rattle.hys_type.specs.Rules.{KeepsTyping}
-use Rattle.hys_type.specs.DeclarationKeeping.{IsReadSource, KeepsItsRules}
+use Rattle.hys_type.specs.DeclarationKeeping.{KeepsItsRules}
 use Rattle.hys_type.proofs.Passing.{none_passes, passes_none, none_fit, fit_none}
 use Rattle.hys_type.proofs.SourceRules.{source_rule}
 use Rattle.hys_type.proofs.TypingRules.{typing_kept}

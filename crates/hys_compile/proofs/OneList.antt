@@ -1,16 +1,11 @@
 -- Two translations of a source have the same intervals to find: the numbers of their ranges are the same.
-use Rattle.std.proofs.Common.{◌≡◌, ℕ, zero, suc, ◌+◌, ◌<◌, ◌≤◌, List, [], ◌∷◌, ◌++◌, Option, Some, Bool, cond, map, length, ◌⊎◌, inl, inr, IsTrue, refl, sym, ◌∙◌, ap, ap₂, subst, arith}
+use Rattle.std.proofs.Common.{◌≡◌, ℕ, zero, suc, List, [], ◌∷◌, ◌++◌, Option, Some, cond, ◌⊎◌, inl, inr, IsTrue, refl, sym, ◌∙◌, ap, ap₂, subst}
 use Rattle.std.proofs.Common.{set}
 use Rattle.std.specs.List.{AllByRecursion}
 use Rattle.hys_number.specs.Number.{Number}
-use Rattle.hys_number.specs.Ops.{whole}
 use Rattle.hys_lin.specs.declared.form.Affine.{Affine}
-use Rattle.hys_lin.specs.declared.form.Term.{Term}
 use Rattle.hys_lin.specs.declared.form.Interval.{Interval}
 use Rattle.hys_lin.specs.declared.lost.Lost.{Lost}
-use Rattle.hys_lin.specs.Scaled.{coefficient}
-use Rattle.hys_lin.specs.Sums.{AreTerms, EachColumn}
-use Rattle.hys_lin.proofs.Lists.{each_more}
 use Rattle.hys_ast.specs.declared.source.Section.{Section}
 use Rattle.hys_ast.specs.declared.source.Section.TheVariants as section
 use Rattle.hys_ast.specs.declared.source.Kind.{Kind}
@@ -18,7 +13,7 @@ use Rattle.hys_ast.specs.Tree.{Decl, Item, Source}
 use Rattle.hys_meaning.specs.Values.{Assignment}
 use Rattle.hys_meaning.specs.Names.{Name, parameters, is_parameter}
 use Rattle.hys_meaning.specs.Steps.{is_given}
-use Rattle.hys_meaning.specs.Forms.{Form, form, guard_form}
+use Rattle.hys_meaning.specs.Forms.{form, guard_form}
 use Rattle.hys_meaning.specs.Bodies.{body}
 use Rattle.hys_meaning.specs.Bodies as said
 use Rattle.hys_prog.specs.declared.program.Role.{Role}
@@ -33,8 +28,7 @@ use Rattle.hys_prog.specs.Orders.{Stands, HasTerm, MentionedIn, SomeItem, Leads,
 use Rattle.hys_order.proofs.Definable.{one_order}
 use Rattle.hys_lin.specs.Ranges.{ranging}
 use Rattle.hys_bound.specs.Ranges.{range, hull, unit, defined_interval, asked, Placed, all_at, place_in, interval_at, asked_at, with_interval, numbers_here, numbers_along, declared_interval, declared, found, intervals, range_numbers}
-use Rattle.hys_type.specs.Translation.{Setting, setting, place_if, role_in, IsNameOf, OneByOne, HaveFactors, IsFormOf, else_form, formula, left_kind, IsBodyOf, guard, choice, logic, linear, next_bool, next_real, out_bool, out_real, must_hold, must_most, must_zero, IsItemOf, IsNamedTranslation}
-use Rattle.hys_type.specs.Built.{sparse}
+use Rattle.hys_type.specs.Translation.{Setting, setting, place_if, role_in, IsNameOf, OneByOne, else_form, formula, left_kind, IsBodyOf, guard, choice, logic, linear, next_bool, next_real, out_bool, out_real, must_hold, must_most, must_zero, IsItemOf, IsNamedTranslation}
 use Rattle.hys_type.proofs.OneForm.{only, only_form}
 
 -- ---- bodies, by what the source says

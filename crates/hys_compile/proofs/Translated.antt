@@ -20,7 +20,6 @@ use Rattle.hys_prog.specs.Steps as program
 use Rattle.hys_type.specs.Declaring.{declares}
 use Rattle.hys_type.specs.Rules.{KeepsTyping}
 use Rattle.hys_type.specs.Translation.{role_in, OneByOne, IsNameOf, IsNamedTranslation, IsTranslation}
-use Rattle.hys_type.specs.Views as views
 use Rattle.hys_type.proofs.SameSteps.{state_role, input_role, output_role, legal_places}
 use Rattle.hys_exact.specs.Automata as exact
 use Rattle.hys_sys.specs.declared.system.System.{System}
