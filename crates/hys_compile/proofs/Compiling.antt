@@ -11,6 +11,7 @@ use Rattle.hys_type.proofs.SameCircles.{unfolded_declared}
 use Rattle.hys_exact.specs.Automata.{LegalSteps, automaton_of}
 use Rattle.hys_exact.specs.Built.{IsBuilt}
 use Rattle.hys_mld.specs.Stated.{AreStated}
+use Rattle.hys_mld.specs.Written.{IsWritten}
 use Rattle.hys_sys.specs.Exact.{Exact}
 use Rattle.hys_sys.specs.System.{IsSystem}
 use Rattle.hys_compile.specs.declared.compiler.Compiled.{Compiled}
@@ -22,8 +23,8 @@ use Rattle.hys_compile.proofs.Translated.{exact_source}
 
 pub is_compiled : (tolerance : Number) (text : List ℕ) (tokens : List Token) (tree : Source) (c : Compiled) → IsRowed tolerance text tokens tree → IsTranslation tolerance tree c.program → IsProgram c.program → IsOrder c.program c.order →
     Exact (automaton_of c.program) (LegalSteps c.program) c.system → IsSystem c.system → c.system.weight ≡ c.program.weight → IsBuilt c.program (intervals c.program c.order) c.system → AreStated c.program (intervals c.program c.order) c.system.rows →
-    IsCompiled tolerance text c
-is_compiled tolerance text tokens tree c h t p o e s w b r =
+    IsWritten c.program (intervals c.program c.order) c.system → IsCompiled tolerance text c
+is_compiled tolerance text tokens tree c h t p o e s w b r i =
     let typed : IsTyped text tokens tree = h.ranged.ordered.typed in
     record {
       tokens = tokens;
@@ -39,4 +40,5 @@ is_compiled tolerance text tokens tree c h t p o e s w b r =
       exact = exact_source tolerance tree c.program c.system t (keeps_typing text tokens tree typed) (unfolded_declared tree (measured_declarations text tokens tree typed.measured)) e;
       built = b;
       stated = r;
+      written = i;
     }

@@ -31,6 +31,7 @@ pub mod WrittenParts
 pub mod Readable
 pub mod OneList
 pub mod GuardSizes
+pub mod SmallWeights
 pub mod Circles
 pub mod Unfit
 pub mod Compiling

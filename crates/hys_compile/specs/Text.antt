@@ -24,6 +24,7 @@ use Rattle.hys_prog.specs.Orders.{IsOrder}
 use Rattle.hys_bound.specs.Ranges.{Placed, intervals, first_unfit}
 use Rattle.hys_exact.specs.Built.{IsBuilt}
 use Rattle.hys_mld.specs.Stated.{AreStated}
+use Rattle.hys_mld.specs.Written.{IsWritten}
 use Rattle.hys_sys.specs.System.{IsSystem}
 use Rattle.hys_compile.specs.Automaton.{IsExactFor}
 use Rattle.hys_compile.specs.declared.compiler.Compiled.{Compiled}
@@ -177,3 +178,4 @@ pub record IsCompiled (tolerance : Number) (text : List ℕ) (c : Compiled) : Ty
   pub exact : IsExactFor tolerance tree c.system
   pub built : IsBuilt c.program (intervals c.program c.order) c.system
   pub stated : AreStated c.program (intervals c.program c.order) c.system.rows
+  pub written : IsWritten c.program (intervals c.program c.order) c.system

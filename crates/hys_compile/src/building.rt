@@ -9,6 +9,7 @@ ghost use Rattle.hys_type.specs.Translation.{IsTranslation};
 ghost use Rattle.hys_exact.specs.Automata.{LegalSteps, automaton_of};
 ghost use Rattle.hys_exact.specs.Built.{IsBuilt};
 ghost use Rattle.hys_mld.specs.Stated.{AreStated};
+ghost use Rattle.hys_mld.specs.Written.{IsWritten};
 ghost use Rattle.hys_sys.specs.Exact.{Exact};
 ghost use Rattle.hys_sys.specs.System.{IsSystem};
 ghost use Rattle.hys_compile.specs.Text.{IsRanged, IsRowed, IsRefusal};
@@ -46,6 +47,7 @@ pub fn build(
     ensures weight { IfOk result (λ s. s.weight ≡ program.now.weight) }
     ensures built { IfOk result (λ s. IsBuilt program.now (intervals program.now order.now) s) }
     ensures stated { IfOk result (λ s. AreStated program.now (intervals program.now order.now) s.rows) }
+    ensures written { IfOk result (λ s. IsWritten program.now (intervals program.now order.now) s) }
     ensures rowed { IfOk result (λ _. IsRowed tolerance text.now tokens.now (source_of source.now)) }
     ensures err { IfErr result (IsRefusal tolerance text.now) }
 {

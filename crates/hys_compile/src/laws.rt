@@ -1,12 +1,14 @@
 //! What holds of texts and of the sources that are read from them, as calls that do nothing.
 
-ghost use Rattle.std.specs.Prelude.{◌≡◌, ℕ, List, length, map};
+ghost use Rattle.std.specs.Prelude.{◌≡◌, ℕ, ◌≤◌, List, length, map};
 ghost use Rattle.std.specs.List.{AllByRecursion};
 ghost use Rattle.hys_number.specs.Number.{Number};
 ghost use Rattle.hys_lex.specs.Cut.{Cut};
 ghost use Rattle.hys_lex.specs.declared.token.Token.{Token};
 ghost use Rattle.hys_ast.specs.Tree.{Source};
 ghost use Rattle.hys_ast.specs.Grammar.{IsTreeOf};
+ghost use Rattle.hys_meaning.specs.Accepted.{Accepted};
+ghost use Rattle.hys_meaning.specs.Weight.{weight};
 ghost use Rattle.hys_type.specs.Checks.{HasSourceLiterals};
 ghost use Rattle.hys_type.specs.DeclarationKeeping.{IsReadSource};
 ghost use Rattle.hys_type.specs.Declaring.{IsDeclaration};
@@ -39,6 +41,12 @@ pub fn read_sources()
 pub fn same_range_numbers()
     ensures { (tolerance other : Number) (s : Source) (p q : Program) (o r : Order) → IsTranslation tolerance s p →
         IsTranslation other s q → IsOrder p o → IsOrder q r → range_numbers p o ≡ range_numbers q r }
+{}
+
+/// An accepted source has a weight of at most 4,200: each of its at most 200 names adds at most 1, and
+/// each connective, unnamed guard and demand takes a node of its own, of which there are at most 4,000.
+pub fn weights_are_small()
+    ensures { (s : Source) → Accepted s → weight s ≤ 4200 }
 {}
 
 /// There are twenty faults, and each constant of the module `number` is the number of the fault

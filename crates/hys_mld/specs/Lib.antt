@@ -7,4 +7,5 @@ pub mod Columns
 pub mod Forms
 pub mod Lines
 pub mod Assembled
+pub mod Written
 pub mod Example

@@ -13,6 +13,7 @@ ghost use Rattle.hys_mld.specs.Fresh.{fresh_of, name_columns};
 ghost use Rattle.hys_mld.specs.Lines.{AreLines};
 ghost use Rattle.hys_mld.specs.Numbers.{row_numbers};
 ghost use Rattle.hys_mld.specs.Stated.{AreStated};
+ghost use Rattle.hys_mld.specs.Written.{IsWritten};
 
 use crate::columns::columns;
 use crate::fault::BuildFault;
@@ -57,6 +58,7 @@ pub fn build(
     ensures weight { IfOk result (λ s. s.weight ≡ program.now.weight) }
     ensures built { IfOk result (λ s. IsBuilt program.now ranges.now s) }
     ensures stated { IfOk result (λ s. AreStated program.now ranges.now s.rows) }
+    ensures written { IfOk result (λ s. IsWritten program.now ranges.now s) }
     ensures judged { Judged (row_numbers program.now ranges.now) result }
 {
     let _weight = program.weight;
