@@ -350,27 +350,35 @@ fn rows(rt: HostRuntime) -> Result<(), Fail> {
     Ok(())
 }
 
-// The bound of the guard's second row: 5 less the tolerance that was asked for, or less its own.
-#[test]
-fn tolerances(rt: HostRuntime) -> Result<(), Fail> {
-    let alloc = rt.alloc();
-    let half = Frac::new(1, 2).unwrap_or(Frac::ONE);
-    for (text, eps, num, den) in [
-        (GUARD, tolerance(), 4999, 1000),
-        (GUARD, half, 9, 2),
-        (OWN, tolerance(), 9, 2),
-        (OWN, Frac::ONE, 9, 2),
-    ] {
-        let bound = match compile(alloc, text.as_bytes(), eps) {
-            Ok(Compiled { system, .. }) => match system.rows.items().get(1) {
-                Some(row) => (row.bound.num(), row.bound.den()),
-                None => (0, 1),
-            },
-            Err(_) => (0, 0),
-        };
-        assert_eq!(rt; bound, (num, den), "{text}");
+// The bound of the second row of a text's system at a tolerance; 0/0 where there is no system.
+fn second_bound(alloc: Global, text: &str, num: i64, den: i64) -> (i64, i64) {
+    let Some(eps) = Frac::new(num, den) else {
+        return (0, 0);
+    };
+    if !eps.is_positive() {
+        return (0, 0);
     }
-    Ok(())
+    match compile(alloc, text.as_bytes(), eps) {
+        Ok(Compiled { system, .. }) => match system.rows.items().get(1) {
+            Some(row) => (row.bound.num(), row.bound.den()),
+            None => (0, 1),
+        },
+        Err(_) => (0, 0),
+    }
+}
+
+// A guard's own tolerance, or else the one that was asked for, is taken from the 5.
+#[test]
+fn tolerances(rt: HostRuntime) {
+    let alloc = rt.alloc();
+    for (text, eps, bound) in [
+        (GUARD, (1, 1000), (4999, 1000)),
+        (GUARD, (1, 2), (9, 2)),
+        (OWN, (1, 1000), (9, 2)),
+        (OWN, (1, 1), (9, 2)),
+    ] {
+        assert_eq!(rt; second_bound(alloc, text, eps.0, eps.1), bound, "{text}");
+    }
 }
 
 // What is made of a size.
@@ -466,7 +474,7 @@ fn chained(alloc: Global, count: u32) -> Result<String, AllocError> {
     )
 }
 
-fn sized(alloc: Global, what: Sized, count: u32) -> Result<String, AllocError> {
+fn source_of(alloc: Global, what: Sized, count: u32) -> Result<String, AllocError> {
     match what {
         Sized::Bytes => repeated(alloc, " ", count),
         Sized::Tokens => repeated(alloc, ";", count),
@@ -483,7 +491,7 @@ fn sized(alloc: Global, what: Sized, count: u32) -> Result<String, AllocError> {
 fn limits(rt: HostRuntime) -> Result<(), Fail> {
     let alloc = rt.alloc();
     for (what, count, wanted) in LIMITS {
-        let text = sized(alloc, what, count)?;
+        let text = source_of(alloc, what, count)?;
         let got = described(alloc, text.as_bytes())?;
         assert_eq!(rt; got.as_str(), wanted, "{what:?} {count}");
     }
