@@ -1,0 +1,18 @@
+//! The matrix text of a system, read back as that system.
+#![tactic(auto)]
+
+mod column;
+mod fault;
+mod form;
+mod names;
+mod output;
+mod reader;
+mod row;
+mod system;
+mod words;
+
+pub use fault::FileFault;
+pub use reader::{MOST_BYTES, read_system};
+
+#[cfg(test)]
+mod tests;
