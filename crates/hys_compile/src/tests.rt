@@ -1,4 +1,4 @@
-use crate::{Compiled, Detail, compile};
+use crate::{Compiled, Detail, SourceFault, compile};
 use hys_ast::Place;
 use hys_frac::Frac;
 use hys_lin::Op;
@@ -8,9 +8,19 @@ use std::test::Fail;
 const INTEGRATOR: &str =
     "SYSTEM s { INTERFACE { STATE { REAL x [0, 10]; } INPUT { REAL u [-1, 1]; } } IMPLEMENTATION { CONTINUOUS { x = x + u; } } }";
 
-// The tolerance of guards without one of their own.
-fn tolerance() -> Frac {
-    Frac::new(1, 1000).unwrap_or(Frac::ONE)
+// What is compiled at a tolerance; none where that isn't above 0.
+fn compiled(
+    alloc: Global,
+    text: &[u8],
+    num: i64,
+    den: i64,
+) -> Option<Result<Compiled, SourceFault>> {
+    let eps = Frac::new(num, den)?;
+    if eps.is_positive() {
+        Some(compile(alloc, text, eps))
+    } else {
+        None
+    }
 }
 
 // The piece so many times.
@@ -79,13 +89,14 @@ fn in_words(alloc: Global, number: u8, detail: &Detail) -> Result<String, AllocE
 
 // What the compiler answers, in few words.
 fn described(alloc: Global, text: &[u8]) -> Result<String, AllocError> {
-    match compile(alloc, text, tolerance()) {
-        Ok(Compiled { system, .. }) => {
+    match compiled(alloc, text, 1, 1000) {
+        Some(Ok(Compiled { system, .. })) => {
             let columns = system.columns.items().len();
             let rows = system.rows.items().len();
             format!(in alloc; "{columns} columns, {rows} rows")
         }
-        Err(fault) => in_words(alloc, fault.number, &fault.detail),
+        Some(Err(fault)) => in_words(alloc, fault.number, &fault.detail),
+        None => String::from_str(alloc, "no tolerance"),
     }
 }
 
@@ -352,18 +363,13 @@ fn rows(rt: HostRuntime) -> Result<(), Fail> {
 
 // The bound of the second row of a text's system at a tolerance; 0/0 where there is no system.
 fn second_bound(alloc: Global, text: &str, num: i64, den: i64) -> (i64, i64) {
-    let Some(eps) = Frac::new(num, den) else {
-        return (0, 0);
-    };
-    if !eps.is_positive() {
-        return (0, 0);
-    }
-    match compile(alloc, text.as_bytes(), eps) {
-        Ok(Compiled { system, .. }) => match system.rows.items().get(1) {
+    match compiled(alloc, text.as_bytes(), num, den) {
+        Some(Ok(Compiled { system, .. })) => match system.rows.items().get(1) {
             Some(row) => (row.bound.num(), row.bound.den()),
             None => (0, 1),
         },
-        Err(_) => (0, 0),
+        Some(Err(_)) => (0, 0),
+        None => (0, 0),
     }
 }
 
