@@ -31,7 +31,8 @@ fn conclude<F: Files>(alloc: Global, words: &[String], files: &mut F) -> Result<
     ensures no_form { form_of (map string_bytes words.now) ≡ None →
         IfOk result (λ o. IsReached IsUsage o (F.read_faults files.old) (F.read_faults files.new)) }
     ensures unread { form_of (map string_bytes words.now) ≡ None → F.read_faults files.new ≡ F.read_faults files.old }
-    ensures compile { (source target : List ℕ) (tolerance : Number) → form_of (map string_bytes words.now) ≡ Some (source, target, tolerance) →
+    ensures compile { (source target : List ℕ) (tolerance : Number) →
+        form_of (map string_bytes words.now) ≡ Some (source, target, tolerance) →
         IfOk result (λ o. IsReached (IsCompileOutcome tolerance (F.held files.old) source target) o
         (F.read_faults files.old) (F.read_faults files.new)) }
     ensures reads { F.read_faults files.old ≤ F.read_faults files.new }

@@ -26,7 +26,8 @@ fn is_positive(number: Frac) -> bool
 
 // What follows `eps=`.
 fn text_of(word: &[u8]) -> Option<&[u8]>
-    ensures { option_map (λ t. t.now) result ≡ if bytes_eq (take 4 word.now) (codes "eps=") then Some (drop 4 word.now) else None }
+    ensures { option_map (λ t. t.now) result ≡
+        if bytes_eq (take 4 word.now) (codes "eps=") then Some (drop 4 word.now) else None }
 {
     match word {
         [b'e', b'p', b's', b'=', text @ ..] => Some(text),

@@ -67,7 +67,8 @@ fn read_rows(
     columns: u64,
     value: &Value,
 ) -> Result<Vec<(Row, Text)>, ValueFault>
-    ensures { Judged (rows_checks is_first columns (view value.now)) (λ rs. rs.items ≡ rows_by is_first (view value.now)) result }
+    ensures { Judged (rows_checks is_first columns (view value.now)) (λ rs.
+        rs.items ≡ rows_by is_first (view value.now)) result }
 {
     if is_first {
         let mut before = FirstRowsBefore { columns };

@@ -38,7 +38,8 @@ pub fn read_list<R: Reader>(
 ) -> Result<Vec<R::Item>, ValueFault>
 where
     R::Item: Drop,
-    ensures { Judged (list_checks R.asked R.after reader.old (view value.now)) (λ xs. xs.items ≡ map R.meant (items_in (view value.now))) result }
+    ensures { Judged (list_checks R.asked R.after reader.old (view value.now)) (λ xs.
+        xs.items ≡ map R.meant (items_in (view value.now))) result }
 {
     let values = read_items(alloc, value)?;
     let mut items = Vec::new(alloc);

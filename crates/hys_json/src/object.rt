@@ -62,7 +62,8 @@ fn check_unknown(
     members: &Map<String, Value>,
     keys: &[&str],
 ) -> Result<(), ValueFault>
-    ensures { Judged (unknown_checks (map (λ k. k.now) keys.now) (keys_of (members_view members.now.entries))) (λ _. Unit {0}) result }
+    ensures { Judged (unknown_checks (map (λ k. k.now) keys.now) (keys_of (members_view members.now.entries)))
+        (λ _. Unit {0}) result }
 {
     for key in members.keys() {
         if !is_one_of(keys, key.as_str()) {
