@@ -1,4 +1,4 @@
-//! The matrix text of a system, read back as that system.
+//! The matrix text of a system: written, and read back as that system.
 #![tactic(auto)]
 
 mod column;
@@ -10,9 +10,11 @@ mod reader;
 mod row;
 mod system;
 mod words;
+mod writer;
 
 pub use fault::FileFault;
 pub use reader::{MOST_BYTES, read_system};
+pub use writer::write_system;
 
 #[cfg(test)]
 mod tests;
