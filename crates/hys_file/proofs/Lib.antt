@@ -1,3 +1,6 @@
 pub mod Fronts
 pub mod Outcomes
 pub mod Floats
+pub mod Distinct
+pub mod Lawful
+pub mod OneAnswer

@@ -4,6 +4,7 @@
 mod column;
 mod fault;
 mod form;
+pub mod laws;
 mod names;
 mod output;
 mod reader;
