@@ -1,8 +1,10 @@
 -- Names of which none stands among those before it.
-use Rattle.std.proofs.Common.{◌≡◌, ℕ, List, [], ◌∷◌, ◌++◌, Bool, true, false, cond, bytes_eq, refl, sym, ◌∙◌, subst, append-nil, append_assoc}
+use Rattle.std.proofs.Common.{drop-cons, ◌≡◌, ℕ, suc, ◌+◌, ◌<◌, get_or, drop, length, map, arith, List, [], ◌∷◌, ◌++◌, Bool, true, false, cond, bytes_eq, refl, sym, ◌∙◌, ap, subst, append-nil, append_assoc}
 use Rattle.std.proofs.lemmas.Slice.Eq.{bytes_eq-Decides}
 use Rattle.hys_base.specs.Differ.{Apart, Differ}
 use Rattle.hys_json.specs.Values.{is_one_of}
+use Rattle.hys_sys.specs.declared.system.Column.{Column}
+use Rattle.hys_file.specs.Reading.{column_name}
 
 abbrev pub Fresh : List (List ℕ) → List (List ℕ) → Type 0
 Fresh ns [] = Unit {0}
@@ -80,3 +82,21 @@ others_of_none (m ∷ ms) = (refl, others_of_none ms)
 
 pub fresh_differ : (ms : List (List ℕ)) → Differ ms → Fresh [] ms
 fresh_differ ms d = fresh_others [] ms (others_of_none ms) d
+
+-- ---- the columns one after the other
+from_here : (cs : List Column) (i : ℕ) (c : Column) (ns : List (List ℕ)) → i < length cs → c ≡ get_or cs i c → Fresh ns (map column_name (drop i cs)) →
+    Fresh ns (c.name ∷ map column_name (drop (i + 1) cs))
+from_here cs i c ns l e f = subst (λ ds. Fresh ns (map column_name ds)) here f
+  where
+    one_more : suc i ≡ i + 1
+    one_more = omega arith
+
+    here : drop i cs ≡ c ∷ drop (i + 1) cs
+    here = rw (drop-cons cs i c l, ← e) (ap (λ (n : ℕ). c ∷ drop n cs) one_more)
+
+pub next_is_new : (cs : List Column) (i : ℕ) (c : Column) (ns : List (List ℕ)) → i < length cs → c ≡ get_or cs i c → Fresh ns (map column_name (drop i cs)) → is_one_of ns c.name ≡ false
+next_is_new cs i c ns l e f = (from_here cs i c ns l e f).0
+
+pub next_fresh : (cs : List Column) (i : ℕ) (c : Column) (ns : List (List ℕ)) → i < length cs → c ≡ get_or cs i c → Fresh ns (map column_name (drop i cs)) →
+    Fresh (ns ++ c.name ∷ []) (map column_name (drop (i + 1) cs))
+next_fresh cs i c ns l e f = (from_here cs i c ns l e f).1

@@ -1,5 +1,5 @@
 -- The system of a value in which nothing is wrong is lawful.
-use Rattle.std.proofs.Common.{◌≡◌, ℕ, suc, ◌+◌, ◌*◌, ◌<◌, ◌≤◌, List, [], ◌∷◌, ◌++◌, Bool, true, false, not, ◌&&◌, cond, Option, Some, None, map, length, codes, nat_lt, nat_le, nat_eq, refl, sym, ◌∙◌, ap, subst, arith, tests}
+use Rattle.std.proofs.Common.{◌≡◌, ℕ, suc, ◌+◌, ◌*◌, ◌<◌, ◌≤◌, List, [], ◌∷◌, ◌++◌, Bool, true, false, not, ◌&&◌, cond, Option, Some, None, Result, Ok, map, length, codes, nat_lt, nat_le, nat_eq, refl, sym, ◌∙◌, ap, subst, arith, tests}
 use Rattle.std.specs.List.{All}
 use Rattle.std.specs.Ordering.{MatchOrdering}
 use Rattle.std.specs.declared.cmp.Ordering.{Ordering}
@@ -20,8 +20,10 @@ use Rattle.hys_lin.specs.declared.form.Affine.{Affine}
 use Rattle.hys_lin.specs.declared.form.Interval.{Interval}
 use Rattle.hys_lin.specs.declared.form.Row.{Row}
 use Rattle.hys_lin.proofs.Lists.{each_more}
-use Rattle.hys_json.specs.Checks.{Check, shape, first_fault, under}
+use Rattle.hys_json.specs.declared.fault.ValueFault.{ValueFault}
+use Rattle.hys_json.specs.Checks.{Check, shape, first_fault, under, IsWithin, Judged}
 use Rattle.hys_json.specs.Values.{each_from, list_checks, items_in, member_in, text_checks, word_checks, fraction_in, fraction_checks, whole_in, whole_checks, closed_checks, is_one_of}
+use Rattle.hys_json.proofs.Judging.{read_under}
 use Rattle.hys_json.proofs.Passing.{passes_only, both_pass, passes_within, each_passes, items_pass, all_pass}
 use Rattle.hys_sys.specs.declared.system.ColumnRole.{ColumnRole}
 use Rattle.hys_sys.specs.declared.system.Kind2.{Kind2}
@@ -183,6 +185,10 @@ rules_pass b c h =
       place = is_at_most b.rank (rank c.role) (passes_only (nat_le b.rank (rank c.role)) (passes_within (codes "role") (shape (nat_le b.rank (rank c.role)) ∷ []) two.1));
     }
 
+-- a column that passes the rules has a name that none before has
+pub new_column : (b : ColumnsBefore) (c : Column) → first_fault (column_rules b c) ≡ None → is_one_of b.names c.name ≡ false
+new_column b c h = (rules_pass b c h).fresh
+
 record AreNextColumns (ns : List (List ℕ)) (least : ℕ) (cs : List Column) : Type 0 where
   fresh : Fresh ns (map column_name cs)
   order : InOrder cs
@@ -217,6 +223,12 @@ columns_lawful d h = next_columns 0 [] 0 (items_in d) (items_pass column_checks 
 
 pub columns_differ : (d : Data) → first_fault (columns_checks d) ≡ None → Differ (map column_name (columns_in d))
 columns_differ d h = differ_fresh [] (map column_name (columns_in d)) (columns_lawful d h).fresh
+
+pub read_columns_differ : (key : List ℕ) (d : Data) (inner : Result (List Column) ValueFault) (cs : List Column) →
+    Judged (columns_checks d) (λ cs. cs ≡ columns_in d) inner → IsWithin key inner (Ok cs) → Differ (map column_name cs)
+read_columns_differ key d inner cs j w =
+    let p = read_under key (columns_checks d) (λ cs. cs ≡ columns_in d) inner (Ok cs) j w in
+    subst (λ cs. Differ (map column_name cs)) (sym p.1) (columns_differ d (passes_within key (columns_checks d) p.0))
 
 -- ---- next values and outputs
 record AreNext (columns : List Column) (fs : List Affine) : Type 0 where
@@ -323,11 +335,11 @@ no_limit : (b : Bool) (what : List ℕ) (rest : Option (List ℕ)) → cond b (S
 no_limit true what rest h = absurd (cc)
 no_limit false what rest h = (refl, h)
 
-record IsWithin (s : System) : Type 0 where
+record KeepsLimits (s : System) : Type 0 where
   few_columns : length s.columns ≤ s.weight
   few_rows : length s.rows ≤ 5 * s.weight
 
-within_limits : (s : System) → limit_of s ≡ None → IsWithin s
+within_limits : (s : System) → limit_of s ≡ None → KeepsLimits s
 within_limits s h =
     let rows : Option (List ℕ) = cond (nat_lt (5 * s.weight) (length s.rows)) (Some (codes "rows")) None in
     let one = no_limit (nat_lt most_weight s.weight) (codes "weight") (cond (nat_lt s.weight (length s.columns)) (Some (codes "columns")) rows) h in
@@ -374,7 +386,7 @@ pub value_lawful : (d : Data) → first_fault (matrix_checks d) ≡ None → lim
 value_lawful d h l =
     let parts = both_pass (front_checks d) (back_checks d) h in
     let front : AreFronts d = front_lawful d parts.0 in
-    let few : IsWithin (system_in d) = within_limits (system_in d) l in
+    let few : KeepsLimits (system_in d) = within_limits (system_in d) l in
     record {
       order = front.columns.order;
       boxes = front.columns.boxes;

@@ -4,3 +4,4 @@ pub mod Floats
 pub mod Distinct
 pub mod Lawful
 pub mod OneAnswer
+pub mod Known
