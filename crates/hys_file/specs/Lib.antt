@@ -1,2 +1,4 @@
+pub mod Matrix
 pub mod Reading
 pub mod Texts
+pub mod Laws

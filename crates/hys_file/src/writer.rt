@@ -1,9 +1,9 @@
 ghost use Rattle.std.specs.Prelude.{◌≡◌, map, IfOk};
 ghost use Rattle.serde_json.specs.View.{view};
 ghost use Rattle.serde_json.specs.Data.{Data};
-ghost use Rattle.hys_sys.specs.Matrix.{kind_word, role_word, column_data, term_data, next_data, output_data, row_data, rows_data, matrix_data, matrix_text};
+ghost use Rattle.hys_file.specs.Matrix.{kind_word, role_word, column_data, term_data, next_data, output_data, row_data, rows_data, matrix_data, matrix_text};
 
-use crate::system::{Column, ColumnRole, Kind2, Output, System};
+use hys_sys::{Column, ColumnRole, Kind2, Output, System};
 use hys_base::Text;
 use hys_lin::{Affine, Row, Term};
 use serde_json::{Value, json};

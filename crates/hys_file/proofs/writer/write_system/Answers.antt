@@ -1,8 +1,8 @@
 use Rattle.std.proofs.Common.{◌≡◌, ◌++◌, ◌∷◌, [], ap, ◌∙◌, string_bytes}
 use Rattle.serde_json.specs.Written.{compact_text, has_float}
-use Rattle.hys_sys.specs.Matrix.{matrix_text}
-use Rattle.hys_sys.proofs.Floats.{no_float}
-use Rattle.hys_sys.proofs.writer.write_system.Goals as goal
+use Rattle.hys_file.specs.Matrix.{matrix_text}
+use Rattle.hys_file.proofs.Floats.{no_float}
+use Rattle.hys_file.proofs.writer.write_system.Goals as goal
 
 pub returns : goal.returns
 unfolding lib.Utf8.encode matrix_text
