@@ -3,3 +3,4 @@ pub mod Shows
 pub mod Fits
 pub mod Worked
 pub mod Laws
+pub mod Multiplied

@@ -1,0 +1,10 @@
+use Rattle.std.proofs.Common.{false, sym}
+use Rattle.hys_lin.proofs.Ranging.{end_negative, end_else}
+use Rattle.hys_lagrange.proofs.Summed.{clash}
+use Rattle.hys_lagrange.proofs.bound.lesser_end.Goals as goal
+
+pub returns-then-is_negative : goal.returns-then-is_negative
+returns-then-is_negative c = sym (end_negative false c.args.coefficient c.args.range (c.is_negative.ensures.0 c.if-is_negative.true))
+
+pub returns-else-is_negative : goal.returns-else-is_negative
+returns-else-is_negative c = sym (end_else false c.args.coefficient c.args.range (λ l. clash c.is_negative.result (c.is_negative.ensures.1 l) c.if-is_negative.false))

@@ -1,0 +1,4 @@
+pub mod Costs
+pub mod Fixed
+pub mod Gathered
+pub mod Listed
