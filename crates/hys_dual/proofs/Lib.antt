@@ -13,4 +13,5 @@ pub mod Goings
 pub mod Ends
 pub mod Solved
 pub mod Lawful
+pub mod Bounded
 pub mod Samples

@@ -8,3 +8,4 @@ pub mod Relaxing
 pub mod Choosing
 pub mod Laws
 pub mod Cases
+pub mod Bounding

@@ -3,6 +3,7 @@
 #![tactic(auto)]
 
 mod bound;
+mod bounding;
 mod choice;
 mod end;
 mod entering;
@@ -25,6 +26,7 @@ mod stand;
 mod tests;
 mod warm;
 
+pub use bounding::bound_at;
 pub use relaxed::Relaxed;
 pub use solver::{solve, solve_from};
 pub use warm::{Warm, first};
