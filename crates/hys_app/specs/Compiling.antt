@@ -3,7 +3,7 @@ use Rattle.std.specs.Prelude.{◌≡◌, ◌≢◌, ℕ, List, Option, None, Som
 use Rattle.std.specs.FinMap as map
 use Rattle.hys_io.specs.Outside.{Named, IfHolds}
 use Rattle.hys_sys.specs.System.{IsSystem}
-use Rattle.hys_sys.specs.Matrix.{matrix_text}
+use Rattle.hys_file.specs.Matrix.{matrix_text}
 use Rattle.hys_sys.specs.declared.system.System.{System}
 use Rattle.hys_number.specs.Number.{Number}
 use Rattle.hys_compile.specs.declared.compiler.Compiled.{Compiled}

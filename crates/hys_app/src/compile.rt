@@ -13,9 +13,10 @@ use crate::lines::{describe_refusal, describe_system, describe_unread};
 use crate::outcome::{NewFile, Outcome};
 use hys_base::{List, Text};
 use hys_compile::{Detail, LimitKind, MOST_BYTES, SourceFault, compile};
+use hys_file::write_system;
 use hys_frac::Frac;
 use hys_io::{Files, ReadFault, read_all};
-use hys_sys::{System, write_system};
+use hys_sys::System;
 use std::alloc::{AllocError, Global};
 
 // The outcome where the source can't be read.
