@@ -5,3 +5,8 @@ pub mod Distinct
 pub mod Lawful
 pub mod OneAnswer
 pub mod Known
+pub mod Blank
+pub mod Fitted
+pub mod Again
+pub mod Depths
+pub mod Written
