@@ -1,7 +1,7 @@
 -- The value of a lawful system whose numbers fit stands for that system.
-use Rattle.std.proofs.Common.{◌≡◌, ℕ, suc, ◌+◌, ◌*◌, ◌^◌, ◌<◌, ◌≤◌, List, [], ◌∷◌, ◌++◌, Bool, true, false, not, ◌&&◌, ◌||◌, cond, Option, Some, None, map, length, codes, nat_lt, nat_le, nat_eq, pos, IsTrue, refl, sym, ◌∙◌, ap, ap₂, subst, arith, tests}
+use Rattle.std.proofs.Common.{◌≡◌, ℕ, suc, ◌+◌, ◌*◌, ◌^◌, ◌<◌, ◌≤◌, List, [], ◌∷◌, ◌++◌, true, false, not, ◌&&◌, cond, Option, Some, None, map, length, codes, nat_lt, nat_le, nat_eq, pos, IsTrue, refl, sym, ◌∙◌, ap, ap₂, subst, arith, tests}
 use Rattle.std.specs.Prelude.{is_some}
-use Rattle.std.specs.List.{All, AllByRecursion}
+use Rattle.std.specs.List.{AllByRecursion}
 use Rattle.std.specs.Ordering.{MatchOrdering}
 use Rattle.std.specs.declared.cmp.Ordering.{Ordering}
 use Rattle.std.specs.declared.cmp.Ordering.TheVariants.{Less, Equal, Greater}
@@ -14,10 +14,8 @@ use Rattle.hys_number.specs.Ops.{◌≤ₙ◌, ◌<ₙ◌, whole, fits}
 use Rattle.hys_number.proofs.Bools.{lt_true, lt_false, eq_true, both_true}
 use Rattle.hys_number.proofs.Order.{lt_irrefl, lt_of_lt-le, at_least_zero}
 use Rattle.hys_frac.specs.Compare.{number_cmp, number_ranks}
-use Rattle.hys_frac.specs.Written.{number_text}
-use Rattle.hys_frac.specs.Read.{reading}
 use Rattle.hys_frac.proofs.RoundTrip.{read_back}
-use Rattle.hys_lin.specs.Sums.{AreTerms, EachColumn}
+use Rattle.hys_lin.specs.Sums.{EachColumn}
 use Rattle.hys_lin.specs.Over.{AreTermsOver}
 use Rattle.hys_lin.specs.declared.form.Term.{Term}
 use Rattle.hys_lin.specs.declared.form.Affine.{Affine}
@@ -25,7 +23,7 @@ use Rattle.hys_lin.specs.declared.form.Interval.{Interval}
 use Rattle.hys_lin.specs.declared.form.Row.{Row}
 use Rattle.hys_lin.proofs.Lists.{each_more}
 use Rattle.hys_json.specs.Checks.{Check, shape, number, first_fault, under}
-use Rattle.hys_json.specs.Values.{each_from, list_checks, items_in, member_in, text_checks, word_checks, fits_by, fraction_by, fraction_in, fraction_checks, or_zero, whole_by, whole_in, whole_checks, closed_checks, is_one_of}
+use Rattle.hys_json.specs.Values.{each_from, list_checks, member_in, text_checks, word_checks, fits_by, fraction_by, fraction_in, fraction_checks, or_zero, whole_by, whole_in, whole_checks, closed_checks, is_one_of}
 use Rattle.hys_json.proofs.Judging.{none_after_none, deeper_none, none_of_five}
 use Rattle.hys_json.proofs.Passing.{none_of_each, none_of_list}
 use Rattle.hys_json.proofs.Readings.{listed}
@@ -38,12 +36,9 @@ use Rattle.hys_sys.specs.declared.system.Column.{Column}
 use Rattle.hys_sys.specs.declared.system.Output.{Output}
 use Rattle.hys_sys.specs.declared.system.System.{System}
 use Rattle.hys_sys.specs.System.{IsSystem, IsBox, InOrder, rank, states}
-use Rattle.hys_file.specs.declared.form.TermsBefore.{TermsBefore}
-use Rattle.hys_file.specs.declared.column.ColumnsBefore.{ColumnsBefore}
-use Rattle.hys_file.specs.declared.output.OutputsBefore.{OutputsBefore}
 use Rattle.hys_file.specs.Matrix.{number_data, kind_word, role_word, column_data, term_data, terms_data, next_data, output_data, row_data, rows_data, matrix_data}
 use Rattle.hys_file.specs.Fitting.{ColumnFits, TermFits, FormFits, OutputFits, RowFits, NumbersFit}
-use Rattle.hys_file.specs.Reading.{item_in, pair_checks, first, second, term_in, is_equal, is_zero, term_checks, after_term, terms_in, terms_checks, form_keys, form_in, form_checks, box_in, isnt_greater, box_checks, kind_in, kind_checks, role_in, role_checks, column_keys, name_in, column_in, after_column, is_kinds_box, column_parts, column_rules, column_checks, columns_in, columns_checks, form_asked, after_form, next_in, next_checks, output_keys, output_in, after_output, output_parts, output_checks, column_name, outputs_in, outputs_checks, row_in, row_keys, row_checks, after_row, labelled, rows_by, rows_checks, row_of, label_of, matrix_keys, is_first_version, version_checks, columns_of, forms_checks, front_checks, back_checks, matrix_checks, system_in, most_weight, limit_of}
+use Rattle.hys_file.specs.Reading.{item_in, pair_checks, first, second, term_in, is_equal, is_zero, term_checks, after_term, terms_in, terms_checks, form_keys, form_in, form_checks, isnt_greater, box_checks, kind_in, kind_checks, role_in, role_checks, column_keys, column_in, after_column, is_kinds_box, column_parts, column_rules, column_checks, columns_in, columns_checks, form_asked, after_form, next_in, next_checks, output_keys, output_in, after_output, output_parts, output_checks, column_name, outputs_in, outputs_checks, row_in, row_keys, row_checks, after_row, labelled, rows_checks, row_of, label_of, matrix_keys, version_checks, forms_checks, front_checks, back_checks, matrix_checks, system_in, most_weight, limit_of}
 use Rattle.hys_file.proofs.Distinct.{Fresh, fresh_differ, fresh_front, fresh_back}
 
 -- ---- tests
@@ -108,7 +103,7 @@ term_passes columns least t m l b z f =
     let d : Data = term_data t in
     let place : first_fault (shape (nat_le least (whole_in (item_in 0 d)) && nat_lt (whole_in (item_in 0 d)) columns) ∷ []) ≡ None =
     ap (λ (n : ℕ). first_fault (shape (nat_le least n && nat_lt n columns) ∷ [])) (place_again t small)
-        ∙ ap (λ c. first_fault (shape c ∷ [])) (both_true (nat_le least t.column) (nat_lt t.column columns) (at_most least t.column l) (lt_true t.column columns b)) in
+    ∙ ap (λ c. first_fault (shape c ∷ [])) (both_true (nat_le least t.column) (nat_lt t.column columns) (at_most least t.column l) (lt_true t.column columns b)) in
     let factor : first_fault (shape (not (is_zero (fraction_in (item_in 1 d)))) ∷ []) ≡ None =
     ap (λ a. first_fault (shape (not (is_zero a)) ∷ [])) (number_again t.factor f) ∙ ap (λ c. first_fault (shape (not c) ∷ [])) (not_zero t.factor z) in
     none_of_five (pair_checks d) (under first (whole_checks (item_in 0 d))) (under second (fraction_checks (item_in 1 d)))

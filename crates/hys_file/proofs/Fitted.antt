@@ -1,5 +1,5 @@
 -- The numbers of fractions fit.
-use Rattle.std.proofs.Common.{drop-cons, ◌≡◌, ℕ, suc, ℤ, pos, ◌+◌, ◌<◌, ◌≤◌, ◌^◌, unsigned_abs, IsTrue, List, [], ◌∷◌, length, get_or, drop, sym, ap, subst, arith}
+use Rattle.std.proofs.Common.{drop-cons, ◌≡◌, ℕ, suc, ℤ, pos, ◌+◌, ◌<◌, ◌≤◌, ◌^◌, unsigned_abs, IsTrue, List, ◌∷◌, length, get_or, drop, sym, ap, subst, arith}
 use Rattle.std.specs.List.{AllByRecursion}
 use Rattle.std.proofs.lemmas.List.{drop_all}
 use Rattle.hys_number.specs.Number.{Number}

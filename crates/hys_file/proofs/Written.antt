@@ -1,14 +1,13 @@
 -- A text that was written stands for its system.
-use Rattle.std.proofs.Common.{◌≡◌, ℕ, ◌≤◌, List, [], ◌∷◌, ◌++◌, length, Some, None, IsUtf8, sym, ◌∙◌, ap, subst, refl}
+use Rattle.std.proofs.Common.{◌≡◌, ℕ, ◌≤◌, List, [], ◌∷◌, ◌++◌, Some, None, IsUtf8, sym, ◌∙◌, ap, subst, refl}
 use Rattle.std.proofs.lemmas.Str.{IsUtf8-append}
 use Rattle.serde_json.specs.Data.{Data, depth}
 use Rattle.serde_json.specs.Read.{read as read_text, max_depth}
 use Rattle.hys_sys.specs.declared.system.System.{System}
-use Rattle.hys_sys.specs.System.{IsSystem}
 use Rattle.hys_file.specs.Matrix.{matrix_data}
 use Rattle.hys_file.specs.Fitting.{NumbersFit}
-use Rattle.hys_file.specs.Reading.{limit_of, most_weight}
-use Rattle.hys_file.specs.Texts.{most_bytes, IsTextOf, ReadsAs}
+use Rattle.hys_file.specs.Reading.{limit_of}
+use Rattle.hys_file.specs.Texts.{ReadsAs}
 use Rattle.hys_file.proofs.Blank.{read_more}
 use Rattle.hys_file.proofs.Depths.{shallow}
 use Rattle.hys_file.proofs.Again.{value_passes, same_system, no_limit}

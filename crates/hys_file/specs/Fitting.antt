@@ -1,5 +1,5 @@
 -- Systems whose numbers fit.
-use Rattle.std.specs.Prelude.{List, IsTrue}
+use Rattle.std.specs.Prelude.{IsTrue}
 use Rattle.std.specs.List.{AllByRecursion}
 use Rattle.hys_number.specs.Ops.{fits}
 use Rattle.hys_lin.specs.declared.form.Term.{Term}
