@@ -1,5 +1,5 @@
 -- The system of a value in which nothing is wrong is lawful.
-use Rattle.std.proofs.Common.{◌≡◌, ℕ, suc, ◌+◌, ◌*◌, ◌<◌, ◌≤◌, List, [], ◌∷◌, ◌++◌, Bool, true, false, not, ◌&&◌, cond, Option, Some, None, Result, Ok, map, length, codes, nat_lt, nat_le, nat_eq, refl, sym, ◌∙◌, ap, subst, arith, tests}
+use Rattle.std.proofs.Common.{◌≡◌, ℕ, suc, ◌+◌, ◌*◌, ◌<◌, ◌≤◌, List, [], ◌∷◌, ◌++◌, Bool, true, false, not, ◌&&◌, cond, Option, Some, None, Result, Ok, map, length, codes, nat_lt, nat_le, nat_eq, refl, sym, ◌∙◌, subst, arith, tests}
 use Rattle.std.specs.List.{All}
 use Rattle.std.specs.Ordering.{MatchOrdering}
 use Rattle.std.specs.declared.cmp.Ordering.{Ordering}
@@ -13,7 +13,7 @@ use Rattle.hys_number.specs.Ops.{◌≤ₙ◌, ◌<ₙ◌, whole}
 use Rattle.hys_number.proofs.Bools.{and_both}
 use Rattle.hys_number.proofs.Order.{le_refl', le_of_lt, lt_irrefl}
 use Rattle.hys_frac.specs.Compare.{number_cmp, number_ranks}
-use Rattle.hys_lin.specs.Sums.{AreTerms, EachColumn}
+use Rattle.hys_lin.specs.Sums.{EachColumn}
 use Rattle.hys_lin.specs.Over.{AreTermsOver}
 use Rattle.hys_lin.specs.declared.form.Term.{Term}
 use Rattle.hys_lin.specs.declared.form.Affine.{Affine}
@@ -25,7 +25,6 @@ use Rattle.hys_json.specs.Checks.{Check, shape, first_fault, under, IsWithin, Ju
 use Rattle.hys_json.specs.Values.{each_from, list_checks, items_in, member_in, text_checks, word_checks, fraction_in, fraction_checks, whole_in, whole_checks, closed_checks, is_one_of}
 use Rattle.hys_json.proofs.Judging.{read_under}
 use Rattle.hys_json.proofs.Passing.{passes_only, both_pass, passes_within, each_passes, items_pass, all_pass}
-use Rattle.hys_sys.specs.declared.system.ColumnRole.{ColumnRole}
 use Rattle.hys_sys.specs.declared.system.Kind2.{Kind2}
 use Rattle.hys_sys.specs.declared.system.Kind2.TheVariants.{Real}
 use Rattle.hys_sys.specs.declared.system.Kind2.TheVariants as kind
@@ -33,10 +32,8 @@ use Rattle.hys_sys.specs.declared.system.Column.{Column}
 use Rattle.hys_sys.specs.declared.system.Output.{Output}
 use Rattle.hys_sys.specs.declared.system.System.{System}
 use Rattle.hys_sys.specs.System.{IsSystem, IsBox, InOrder, rank, states}
-use Rattle.hys_file.specs.declared.form.TermsBefore.{TermsBefore}
 use Rattle.hys_file.specs.declared.column.ColumnsBefore.{ColumnsBefore}
-use Rattle.hys_file.specs.declared.output.OutputsBefore.{OutputsBefore}
-use Rattle.hys_file.specs.Reading.{item_in, pair_checks, first, second, term_in, is_equal, is_zero, term_checks, after_term, terms_in, terms_checks, form_keys, form_in, form_checks, box_in, isnt_greater, box_checks, kind_checks, role_in, role_checks, column_keys, name_in, column_in, after_column, is_kinds_box, column_parts, column_rules, column_checks, columns_in, columns_checks, form_asked, after_form, next_in, next_checks, output_keys, output_in, after_output, output_parts, output_checks, column_name, outputs_in, outputs_checks, row_in, first_row_keys, row_keys, first_row_checks, row_checks, after_first_row, after_row, first_labelled, labelled, rows_by, rows_checks, row_of, label_of, label_in, matrix_keys, is_first_version, version_checks, columns_of, forms_checks, front_checks, back_checks, matrix_checks, system_in, most_weight, limit_of}
+use Rattle.hys_file.specs.Reading.{item_in, pair_checks, first, second, term_in, is_equal, is_zero, term_checks, after_term, terms_in, terms_checks, form_keys, form_in, form_checks, box_in, isnt_greater, box_checks, kind_checks, role_checks, column_keys, name_in, column_in, after_column, is_kinds_box, column_parts, column_rules, column_checks, columns_in, columns_checks, form_asked, after_form, next_in, next_checks, output_keys, output_in, after_output, output_parts, output_checks, column_name, outputs_in, outputs_checks, row_in, first_row_keys, row_keys, first_row_checks, row_checks, after_first_row, after_row, first_labelled, labelled, rows_by, rows_checks, row_of, label_of, matrix_keys, is_first_version, version_checks, columns_of, forms_checks, front_checks, back_checks, matrix_checks, system_in, most_weight, limit_of}
 use Rattle.hys_file.specs.Texts.{IsTextOf}
 use Rattle.hys_file.proofs.Distinct.{Fresh, differ_fresh, fresh_append}
 

@@ -1,5 +1,5 @@
 -- A text has one answer: the system that it stands for, or the one cause to refuse it.
-use Rattle.std.proofs.Common.{◌≡◌, ◌⊎◌, ℕ, ◌<◌, ◌≤◌, List, [], ◌∷◌, Bool, true, Option, Some, None, map, length, codes, refl, sym, ◌∙◌, ap, ap₂, subst, inl, inr, arith}
+use Rattle.std.proofs.Common.{◌≡◌, ℕ, ◌<◌, ◌≤◌, List, [], ◌∷◌, Bool, true, Option, Some, None, map, length, codes, refl, sym, ◌∙◌, ap, ap₂, subst, arith}
 use Rattle.serde_json.specs.Data.{Data, number, unsigned}
 use Rattle.hys_json.specs.Checks.{first_fault}
 use Rattle.hys_json.specs.Values.{items_in, member_in, whole_by}

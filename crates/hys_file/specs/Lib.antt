@@ -2,3 +2,4 @@ pub mod Matrix
 pub mod Reading
 pub mod Texts
 pub mod Laws
+pub mod Fitting

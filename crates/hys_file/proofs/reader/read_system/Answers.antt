@@ -2,7 +2,7 @@ use Rattle.std.proofs.Common.{◌≡◌, ◌≤◌, None, Some, length, rules, s
 use Rattle.serde_json.specs.View.{view}
 use Rattle.hys_sys.specs.declared.system.System.{System}
 use Rattle.hys_file.specs.Reading.{limit_of}
-use Rattle.hys_file.specs.Texts.{most_bytes, IsValueOf}
+use Rattle.hys_file.specs.Texts.{most_bytes}
 use Rattle.hys_file.proofs.Outcomes.{bytes_refused, text_refused, value_refused, limit_refused}
 use Rattle.hys_file.proofs.Lawful.{read_lawful}
 use Rattle.hys_file.proofs.reader.read_system.Goals as goal
