@@ -17,6 +17,7 @@ use std::alloc::{AllocError, Global};
 use std::marker::Model;
 
 /// A branch and bound search over the nodes of a problem. Each waiting node may be worked on next.
+#[derive(Drop)]
 pub struct Search {
     table: Table,
 }
