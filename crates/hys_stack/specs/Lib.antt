@@ -1,0 +1,9 @@
+pub mod Requests
+pub mod Stacking
+pub mod Numbers
+pub mod Terms
+pub mod Trajectories
+pub mod Reading
+pub mod Texts
+pub mod Worked
+pub mod Laws
