@@ -10,11 +10,12 @@ pub returns-in-Ok : goal.returns-in-Ok
 returns-in-Ok c =
     let P = c.args.problem.now in
     let fs = c.args.fixings.now in
-    let ys = c.args.multipliers.now.pairs in
-    (value_at P fs c.in_ok-boxes.boxes.items c.as_slice.result.now c.items-cost.result.now P.cost.constant c.items-pairs.result.now ys c.in-Ok.bound
-    c.as_slice.ensures.value c.in_ok-boxes.ensures.each c.items-cost.ensures c.items-pairs.ensures c.requires.rise c.requires.lawful refl c.in-Ok.ensures.value,
-    operations_at P fs c.in_ok-boxes.boxes.items c.as_slice.result.now c.items-cost.result.now P.cost.constant c.items-pairs.result.now ys None
-    c.as_slice.ensures.value c.in_ok-boxes.ensures.each c.items-cost.ensures c.items-pairs.ensures refl c.in-Ok.ensures.lost)
+    let ys = c.args.multipliers.now.pairs in (
+      value_at P fs c.in_ok-boxes.boxes.items c.as_slice.result.now c.items-cost.result.now P.cost.constant c.items-pairs.result.now ys c.in-Ok.bound
+          c.as_slice.ensures.value c.in_ok-boxes.ensures.each c.items-cost.ensures c.items-pairs.ensures c.requires.rise c.requires.lawful refl c.in-Ok.ensures.value,
+      operations_at P fs c.in_ok-boxes.boxes.items c.as_slice.result.now c.items-cost.result.now P.cost.constant c.items-pairs.result.now ys None
+          c.as_slice.ensures.value c.in_ok-boxes.ensures.each c.items-cost.ensures c.items-pairs.ensures refl c.in-Ok.ensures.lost,
+    )
 
 pub returns-in-Err-Lost : goal.returns-in-Err-Lost
 returns-in-Err-Lost c =
