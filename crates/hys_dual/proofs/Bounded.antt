@@ -1,10 +1,9 @@
 -- The bound at a node, by the sum over the node's boxes.
-use Rattle.std.proofs.Common.{◌≡◌, ℕ, ◌<◌, sym, ◌∙◌, ap, subst, List, [], length, Option, Some, None, Result, Ok, Err}
+use Rattle.std.proofs.Common.{◌≡◌, ℕ, sym, ◌∙◌, ap, subst, List, length, Option, Some, None}
 use Rattle.std.proofs.Math.Path.{fun_ext}
 use Rattle.hys_number.specs.Number.{Number}
 use Rattle.hys_lin.specs.Operations.{first_lost}
 use Rattle.hys_lin.specs.Ranges.{box_at}
-use Rattle.hys_lin.specs.Scaled.{AnswersLost}
 use Rattle.hys_lin.specs.declared.form.Term.{Term}
 use Rattle.hys_lin.specs.declared.form.Interval.{Interval}
 use Rattle.hys_lin.specs.declared.lost.Lost.{Lost}
@@ -12,10 +11,9 @@ use Rattle.hys_lin.specs.declared.problem.Problem.{Problem}
 use Rattle.hys_relax.specs.Node.{Boxes, node_boxes}
 use Rattle.hys_relax.specs.LinearProgram.{linear_program}
 use Rattle.hys_relax.specs.Bound.{AreMultipliers, AreLawful, bound_of, node_bound, multiplier}
-use Rattle.hys_relax.specs.BoundSum.{BoundFits, bound_operations, summed_ends, summed_constant, summed_coefficient}
+use Rattle.hys_relax.specs.BoundSum.{bound_operations, summed_ends, summed_constant, summed_coefficient}
 use Rattle.hys_relax.specs.declared.fixing.Fixing.{Fixing}
 use Rattle.hys_relax.proofs.BoundSums.{ends_are}
-use Rattle.hys_dual.specs.Bounding.{IsBoundAt}
 use Rattle.hys_dual.specs.Costs.{with_cost}
 
 boxes_are : (p : Problem) (fs : List Fixing) (bs : List Interval) → ((j : ℕ) → box_at bs j ≡ node_boxes p fs j) → box_at bs ≡ node_boxes p fs
