@@ -1,2 +1,5 @@
+pub mod Matrix
 pub mod Reading
 pub mod Texts
+pub mod Laws
+pub mod Fitting

@@ -1,5 +1,5 @@
 -- What a matrix text says: what is looked for in its JSON value, in order, and the system that the value stands for.
-use Rattle.std.specs.Prelude.{◌≡◌, ℕ, suc, ◌+◌, ◌*◌, ◌<◌, ◌≤◌, List, [], ◌∷◌, ◌++◌, Option, Some, None, Bool, true, false, not, ◌&&◌, ◌||◌, map, length, cond, codes, nat_eq, nat_lt, nat_le}
+use Rattle.std.specs.Prelude.{◌≡◌, ℕ, ◌+◌, ◌*◌, List, [], ◌∷◌, ◌++◌, Option, Some, None, Bool, true, false, not, ◌&&◌, ◌||◌, map, length, cond, codes, nat_eq, nat_lt, nat_le}
 use Rattle.std.specs.Borrow.{Bor}
 use Rattle.std.proofs.Common.{get_or}
 use Rattle.std.specs.declared.cmp.Ordering.{Ordering}
@@ -15,7 +15,7 @@ use Rattle.hys_lin.specs.declared.form.Term.{Term}
 use Rattle.hys_lin.specs.declared.form.Affine.{Affine}
 use Rattle.hys_lin.specs.declared.form.Interval.{Interval}
 use Rattle.hys_lin.specs.declared.form.Row.{Row}
-use Rattle.hys_json.specs.Checks.{Check, shape, number, under, first_fault}
+use Rattle.hys_json.specs.Checks.{Check, shape, under, first_fault}
 use Rattle.hys_json.specs.Values.{text_in, text_checks, word_checks, is_word_by, fraction_in, fraction_checks, whole_by, whole_in, whole_checks, items_in, is_list, list_checks, is_one_of, member_in, closed_checks}
 use Rattle.hys_sys.specs.declared.system.ColumnRole.{ColumnRole}
 use Rattle.hys_sys.specs.declared.system.ColumnRole.TheVariants.{State, Input, D, Z}

@@ -1,12 +1,13 @@
 -- The matrix texts that are read, and why others are refused.
-use Rattle.std.specs.Prelude.{◌≡◌, ℕ, ◌<◌, ◌≤◌, ◌*◌, List, [], ◌∷◌, ◌++◌, length, codes, Option, Some, None, Result, Ok, Err, ◌⊎◌, IsUtf8}
+use Rattle.std.specs.Prelude.{◌≡◌, ℕ, ◌<◌, ◌≤◌, ◌*◌, List, [], ◌∷◌, ◌++◌, length, codes, Some, None, Result, Ok, Err, ◌⊎◌, IsUtf8}
 use Rattle.serde_json.specs.Data.{Data}
 use Rattle.serde_json.specs.Read.{read as read_text}
 use Rattle.hys_json.specs.Checks.{first_fault}
 use Rattle.hys_json.specs.declared.fault.ValueFault.{ValueFault}
 use Rattle.hys_json.specs.declared.fault.ValueFault.TheVariants as value
 use Rattle.hys_sys.specs.declared.system.System.{System}
-use Rattle.hys_file.specs.Reading.{matrix_checks, system_in, limit_of}
+use Rattle.hys_sys.specs.System.{IsSystem}
+use Rattle.hys_file.specs.Reading.{matrix_checks, system_in, most_weight, limit_of}
 use Rattle.hys_file.specs.declared.fault.FileFault.{FileFault}
 use Rattle.hys_file.specs.declared.fault.FileFault.TheVariants as file
 
@@ -54,3 +55,7 @@ pub data IsCause (text : List ℕ) : FileFault → Type 0 where
 abbrev pub IsRead : List ℕ → Result System FileFault → Type 0
 IsRead text (Ok s) = IsTextOf text s
 IsRead text (Err f) = (f ≡ file.Memory) ⊎ IsCause text f
+
+-- a lawful system within the limits is what the text stands for
+abbrev pub ReadsAs : List ℕ → System → Type 0
+ReadsAs text s = IsSystem s → s.weight ≤ most_weight → length text ≤ most_bytes → IsTextOf text s

@@ -3,6 +3,7 @@
 ghost use Rattle.std.specs.Prelude.{◌≡◌, map, IfOk};
 ghost use Rattle.serde_json.specs.View.{view};
 ghost use Rattle.hys_json.specs.Checks.{Judged};
+ghost use Rattle.hys_base.specs.Differ.{Differ};
 ghost use Rattle.hys_sys.specs.System.{rank};
 ghost use Rattle.hys_frac.specs.Compare.{number_cmp};
 ghost use Rattle.hys_number.specs.Ops.{whole};
@@ -126,11 +127,11 @@ impl Reader for ColumnsBefore {
 
     ghost after = { after_column };
 
-    #[tactic(auto, using(hys_json::proofs::Judging::fails_first, hys_json::proofs::Judging::fails_second, hys_json::proofs::Judging::none_after_none, hys_json::proofs::Judging::fails_third, hys_json::proofs::Judging::fails_fourth, hys_json::proofs::Judging::fails_fifth, hys_json::proofs::Judging::none_of_five, hys_json::proofs::Judging::fails_under, hys_json::proofs::Judging::passes_under, hys_json::proofs::Judging::read_as, hys_json::proofs::Readings::closed_has))]
+    #[tactic(auto, using(hys_json::proofs::Judging::fails_first, hys_json::proofs::Judging::fails_second, hys_json::proofs::Judging::none_after_none, hys_json::proofs::Judging::fails_third, hys_json::proofs::Judging::fails_fourth, hys_json::proofs::Judging::fails_fifth, hys_json::proofs::Judging::none_of_five, hys_json::proofs::Judging::fails_under, hys_json::proofs::Judging::passes_under, hys_json::proofs::Judging::read_as, hys_json::proofs::Readings::closed_has, crate::proofs::Lawful::new_column))]
     fn read(&mut self, alloc: Global, value: &Value) -> Result<Column, ValueFault> {
         let column = read_parts(alloc, value)?;
         check_rules(alloc, self, &column)?;
-        self.names.add(column.name.clone()?)?;
+        self.names.add(alloc, column.name.text())?;
         self.rank = rank(column.role);
         Ok(column)
     }
@@ -148,13 +149,15 @@ pub fn read_columns(alloc: Global, value: &Value) -> Result<List<Column>, ValueF
     Ok(List::of(columns))
 }
 
-/// The names of the columns.
+/// The names of the columns, which differ.
+#[tactic(auto, using(crate::proofs::Distinct::fresh_differ, crate::proofs::Distinct::next_is_new, crate::proofs::Distinct::next_fresh))]
 pub fn names_of(alloc: Global, columns: &[Column]) -> Result<Names, AllocError>
+    requires { Differ (map column_name columns.now) }
     ensures { IfOk result (λ names. names ≡ map column_name columns.now) }
 {
     let mut names = Names::new(alloc);
     for column in columns {
-        names.add(column.name.clone()?)?;
+        names.add(alloc, column.name.text())?;
     }
     Ok(names)
 }

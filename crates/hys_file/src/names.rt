@@ -1,24 +1,24 @@
 //! The names that were met.
 
-ghost use Rattle.std.specs.Prelude.{◌≡◌, [], ◌∷◌, ◌++◌, OnOk, map};
+ghost use Rattle.std.specs.Prelude.{◌≡◌, [], ◌∷◌, ◌++◌, false, OnOk, map};
 ghost use Rattle.hys_json.specs.Values.{is_one_of};
 
-use hys_base::{List, Text};
-use std::alloc::{AllocFailed, Global};
+use indexmap::IndexSet;
+use std::alloc::{AllocError, Global};
 use std::marker::Model;
 
 /// The names of columns and outputs that stand before another.
 #[derive(Drop)]
 pub struct Names {
-    names: Vec<Text>,
+    names: IndexSet<String>,
 }
 
 impl Model for Names {
-    ghost use Rattle.std.specs.Prelude.{List, ℕ};
+    ghost use Rattle.std.specs.Prelude.{List, ℕ, map, string_bytes};
 
     ghost Value = { List (List ℕ) };
 
-    ghost view = { λ it. it.names.items };
+    ghost view = { λ it. map string_bytes it.names.keys };
 }
 
 impl Names {
@@ -26,24 +26,23 @@ impl Names {
         ensures { result ≡ [] }
     {
         Names {
-            names: Vec::new(alloc),
+            names: IndexSet::new(alloc),
         }
     }
 
     pub fn has(&self, name: &str) -> bool
         ensures { result ≡ is_one_of self.now name.now }
     {
-        for known in &self.names {
-            if known.text() == name {
-                return true;
-            }
-        }
-        false
+        self.names.contains(name)
     }
 
-    pub fn add(&mut self, name: Text) -> Result<(), AllocFailed<Text>>
-        ensures { OnOk result (self.new ≡ self.old ++ name ∷ []) }
+    /// Adds a name that isn't there yet.
+    #[tactic(auto, using(crate::proofs::Known::added))]
+    pub fn add(&mut self, alloc: Global, name: &str) -> Result<(), AllocError>
+        requires { is_one_of self.old name.now ≡ false }
+        ensures { OnOk result (self.new ≡ self.old ++ name.now ∷ []) }
     {
-        self.names.push(name)
+        self.names.insert(String::from_str(alloc, name)?)?;
+        Ok(())
     }
 }

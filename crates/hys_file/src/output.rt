@@ -55,7 +55,7 @@ impl Reader for OutputsBefore {
 
     ghost after = { after_output };
 
-    #[tactic(auto, using(hys_json::proofs::Judging::fails_first, hys_json::proofs::Judging::fails_second, hys_json::proofs::Judging::none_after_none, hys_json::proofs::Judging::fails_third, hys_json::proofs::Judging::fails_fourth, hys_json::proofs::Judging::fails_fifth, hys_json::proofs::Judging::none_of_five, hys_json::proofs::Judging::fails_under, hys_json::proofs::Judging::passes_under, hys_json::proofs::Judging::read_as, hys_json::proofs::Readings::closed_has))]
+    #[tactic(auto, using(hys_json::proofs::Judging::fails_first, hys_json::proofs::Judging::fails_second, hys_json::proofs::Judging::none_after_none, hys_json::proofs::Judging::fails_third, hys_json::proofs::Judging::fails_fourth, hys_json::proofs::Judging::fails_fifth, hys_json::proofs::Judging::none_of_five, hys_json::proofs::Judging::fails_under, hys_json::proofs::Judging::passes_under, hys_json::proofs::Judging::read_as, hys_json::proofs::Readings::closed_has, crate::proofs::Lawful::output_fresh))]
     fn read(&mut self, alloc: Global, value: &Value) -> Result<Output, ValueFault> {
         let output = read_parts(alloc, self.columns, value)?;
         within(
@@ -63,7 +63,7 @@ impl Reader for OutputsBefore {
             "name",
             check(alloc, !self.names.has(output.name.text())),
         )?;
-        self.names.add(output.name.clone()?)?;
+        self.names.add(alloc, output.name.text())?;
         Ok(output)
     }
 }

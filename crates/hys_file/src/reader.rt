@@ -1,8 +1,9 @@
 //! A matrix text read as its system.
 
-ghost use Rattle.std.specs.Prelude.{◌≡◌, ◌⊎◌, option_map};
+ghost use Rattle.std.specs.Prelude.{◌≡◌, ◌⊎◌, option_map, IfOk};
 ghost use Rattle.serde_json.specs.View.{view};
 ghost use Rattle.hys_json.specs.Checks.{Judged};
+ghost use Rattle.hys_sys.specs.System.{IsSystem};
 ghost use Rattle.hys_file.specs.Reading.{matrix_checks, system_in, limit_of};
 ghost use Rattle.serde_json.specs.Errors.{IsMemory};
 ghost use Rattle.hys_file.specs.declared.fault.FileFault.TheVariants.{Json, Memory};
@@ -74,7 +75,8 @@ fn of_text(error: &Error) -> FileFault
 /// `Number` with its path; then `Limit` of a `weight` over 5,000, of more `columns` than the weight, and
 /// of more `rows` than five times the weight. `Memory` where memory is wanting.
 pub fn read_system(alloc: Global, text: &[u8]) -> Result<System, FileFault>
-    ensures { IsRead text.now result }
+    ensures read { IsRead text.now result }
+    ensures lawful { IfOk result IsSystem }
 {
     if text.len() > MOST_BYTES {
         return Err(over_limit(alloc, "bytes"));

@@ -3,6 +3,7 @@
 ghost use Rattle.std.specs.Prelude.{◌≡◌, ◌∷◌, map, length, IfOk};
 ghost use Rattle.serde_json.specs.View.{view};
 ghost use Rattle.hys_json.specs.Checks.{Judged};
+ghost use Rattle.hys_base.specs.Differ.{Differ};
 ghost use Rattle.hys_sys.specs.System.{states};
 ghost use Rattle.hys_file.specs.Reading.{next_checks, next_in, outputs_checks, outputs_in, rows_checks, rows_by, row_of, label_of, is_first_version, version_checks, matrix_checks, system_in, column_name, is_number_by, IsFront, IsBack, HasMatrixKeys, front_checks, forms_checks, back_checks, columns_of, AreForms, matrix_keys};
 ghost use Rattle.hys_json.specs.Values.{whole_by, closed_checks};
@@ -50,6 +51,7 @@ fn read_outputs(
     columns: &[Column],
     value: &Value,
 ) -> Result<List<Output>, ValueFault>
+    requires { Differ (map column_name columns.now) }
     ensures { Judged (outputs_checks columns.now (view value.now)) (λ os. os ≡ outputs_in (view value.now)) result }
 {
     let mut before = OutputsBefore {
@@ -129,6 +131,7 @@ fn read_forms(
 ) -> Result<(List<Affine>, List<Output>), ValueFault>
     requires columns { columns.now ≡ columns_of (view value.now) }
     requires keys { HasMatrixKeys (view value.now) }
+    requires names { Differ (map column_name columns.now) }
     ensures { Judged (forms_checks (view value.now)) (AreForms (view value.now)) result }
 {
     let next = within(

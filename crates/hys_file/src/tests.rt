@@ -1,5 +1,4 @@
-use crate::{FileFault, read_system};
-use hys_sys::write_system;
+use crate::{FileFault, read_system, write_system};
 use std::alloc::{AllocError, Global};
 use std::test::Fail;
 

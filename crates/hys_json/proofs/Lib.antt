@@ -1,3 +1,4 @@
 pub mod Readings
 pub mod Judging
 pub mod Items
+pub mod Passing

@@ -12,7 +12,7 @@ use Rattle.hys_json.proofs.Judging.{passes_first, fails_behind, then_second, fai
 use Rattle.std.specs.Map.{keys_of as entry_keys}
 use Rattle.std.proofs.lemmas.Slice.Eq.{bytes_eq-Decides}
 
-listed : (ds : List Data) → list_of (items_of ds) ≡ ds
+pub listed : (ds : List Data) → list_of (items_of ds) ≡ ds
 listed [] = refl
 listed (d ∷ ds) = ap (λ es. d ∷ es) (listed ds)
 

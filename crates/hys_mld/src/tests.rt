@@ -7,11 +7,12 @@ use crate::{BuildFault, build};
 use hys_ast::{Kind, Place};
 use hys_base::{List, Text};
 use hys_bound::bounds;
+use hys_file::write_system;
 use hys_frac::Frac;
 use hys_lin::{Affine, Interval, Point, Term};
 use hys_prog::examples::{crossed, crossed_order};
 use hys_prog::{Body, Name, Order, ProgItem, Program, Role};
-use hys_sys::{System, holds, write_system};
+use hys_sys::{System, holds};
 use std::alloc::{AllocError, Global};
 use std::test::Fail;
 

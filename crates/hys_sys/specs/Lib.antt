@@ -1,5 +1,4 @@
 pub mod System
-pub mod Matrix
 pub mod Solution
 pub mod Exact
 pub mod Sum

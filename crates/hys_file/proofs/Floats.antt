@@ -5,7 +5,7 @@ use Rattle.serde_json.specs.Written.{has_float, items_have_float}
 use Rattle.hys_lin.specs.declared.form.Term.{Term}
 use Rattle.hys_lin.specs.declared.form.Affine.{Affine}
 use Rattle.hys_lin.specs.declared.form.Row.{Row}
-use Rattle.hys_sys.specs.Matrix.{column_data, term_data, next_data, output_data, rows_data, matrix_data}
+use Rattle.hys_file.specs.Matrix.{column_data, term_data, next_data, output_data, rows_data, matrix_data}
 use Rattle.hys_sys.specs.declared.system.Column.{Column}
 use Rattle.hys_sys.specs.declared.system.Output.{Output}
 use Rattle.hys_sys.specs.declared.system.System.{System}

@@ -1,11 +1,17 @@
-ghost use Rattle.std.specs.Prelude.{◌≡◌, map, IfOk};
+ghost use Rattle.std.specs.Prelude.{◌≡◌, map, IfOk, IsTrue, string_bytes};
+ghost use Rattle.std.specs.List.{AllByRecursion};
 ghost use Rattle.serde_json.specs.View.{view};
 ghost use Rattle.serde_json.specs.Data.{Data};
-ghost use Rattle.hys_sys.specs.Matrix.{kind_word, role_word, column_data, term_data, next_data, output_data, row_data, rows_data, matrix_data, matrix_text};
+ghost use Rattle.hys_number.specs.Ops.{fits};
+ghost use Rattle.hys_frac.specs.Written.{number_text};
+ghost use Rattle.hys_file.specs.Fitting.{ColumnFits, TermFits, FormFits, OutputFits, RowFits, NumbersFit};
+ghost use Rattle.hys_file.specs.Texts.{ReadsAs};
+ghost use Rattle.hys_file.specs.Matrix.{kind_word, role_word, column_data, term_data, next_data, output_data, row_data, rows_data, matrix_data, matrix_text};
 
-use crate::system::{Column, ColumnRole, Kind2, Output, System};
 use hys_base::Text;
+use hys_frac::Frac;
 use hys_lin::{Affine, Row, Term};
+use hys_sys::{Column, ColumnRole, Kind2, Output, System};
 use serde_json::{Value, json};
 use std::alloc::{AllocError, Global};
 
@@ -29,18 +35,35 @@ fn role_word(role: ColumnRole) -> &'static str
     }
 }
 
+// The text of a number, which fits as each fraction does.
+#[tactic(auto, using(crate::proofs::Fitted::has_fitting_parts))]
+fn number_text(alloc: Global, number: Frac) -> Result<String, AllocError>
+    ensures text { IfOk result (λ s. string_bytes s ≡ number_text number) }
+    ensures fits { IsTrue (fits number) }
+{
+    let _num = number.num();
+    let _den = number.den();
+    number.text(alloc)
+}
+
 /// A part of a matrix text.
 trait Part {
     /// The JSON value that the text shows it as.
     ghost shown: { Self → Data };
 
+    /// That its numbers fit.
+    ghost fit: { Self → Type 0 };
+
     fn value(&self, alloc: Global) -> Result<Value, AllocError>
-        ensures { IfOk result (λ v. view v ≡ shown self.now) };
+        ensures value { IfOk result (λ v. view v ≡ shown self.now) }
+        ensures fits { IfOk result (λ _. fit self.now) };
 }
 
 // The values of parts in their order.
+#[tactic(auto, using(crate::proofs::Fitted::all_next, crate::proofs::Fitted::all_done))]
 fn values<P: Part>(alloc: Global, parts: &[P]) -> Result<Vec<Value>, AllocError>
-    ensures { IfOk result (λ v. map view v.items ≡ map P.shown parts.now) }
+    ensures values { IfOk result (λ v. map view v.items ≡ map P.shown parts.now) }
+    ensures fit { IfOk result (λ _. AllByRecursion P.fit parts.now) }
 {
     let mut values = Vec::new(alloc);
     for part in parts {
@@ -52,9 +75,11 @@ fn values<P: Part>(alloc: Global, parts: &[P]) -> Result<Vec<Value>, AllocError>
 impl Part for Column {
     ghost shown = { column_data };
 
+    ghost fit = { ColumnFits };
+
     fn value(&self, alloc: Global) -> Result<Value, AllocError> {
-        let low = self.bounds.low.text(alloc)?;
-        let high = self.bounds.high.text(alloc)?;
+        let low = number_text(alloc, self.bounds.low)?;
+        let high = number_text(alloc, self.bounds.high)?;
         let kind = kind_word(self.kind);
         let role = role_word(self.role);
         json!(in alloc; {
@@ -69,8 +94,10 @@ impl Part for Column {
 impl Part for Term {
     ghost shown = { term_data };
 
+    ghost fit = { TermFits };
+
     fn value(&self, alloc: Global) -> Result<Value, AllocError> {
-        let factor = self.factor.text(alloc)?;
+        let factor = number_text(alloc, self.factor)?;
         json!(in alloc; [self.column, factor.as_str()])
     }
 }
@@ -78,8 +105,10 @@ impl Part for Term {
 impl Part for Affine {
     ghost shown = { next_data };
 
+    ghost fit = { FormFits };
+
     fn value(&self, alloc: Global) -> Result<Value, AllocError> {
-        let constant = self.constant.text(alloc)?;
+        let constant = number_text(alloc, self.constant)?;
         let terms = values(alloc, self.terms.items())?;
         json!(in alloc; {"constant": constant.as_str(), "terms": terms})
     }
@@ -88,8 +117,10 @@ impl Part for Affine {
 impl Part for Output {
     ghost shown = { output_data };
 
+    ghost fit = { OutputFits };
+
     fn value(&self, alloc: Global) -> Result<Value, AllocError> {
-        let constant = self.form.constant.text(alloc)?;
+        let constant = number_text(alloc, self.form.constant)?;
         let kind = kind_word(self.kind);
         let terms = values(alloc, self.form.terms.items())?;
         json!(in alloc; {
@@ -103,16 +134,19 @@ impl Part for Output {
 
 // The value of a row, with the label of its item.
 fn row_value(alloc: Global, label: &str, row: &Row) -> Result<Value, AllocError>
-    ensures { IfOk result (λ v. view v ≡ row_data label.now row.now) }
+    ensures value { IfOk result (λ v. view v ≡ row_data label.now row.now) }
+    ensures fits { IfOk result (λ _. RowFits row.now) }
 {
-    let bound = row.bound.text(alloc)?;
+    let bound = number_text(alloc, row.bound)?;
     let terms = values(alloc, row.terms.items())?;
     json!(in alloc; {"bound": bound.as_str(), "item": label, "terms": terms})
 }
 
 // The values of rows in their order.
+#[tactic(auto, using(crate::proofs::Fitted::all_next, crate::proofs::Fitted::all_done))]
 fn row_values(alloc: Global, labels: &[Text], rows: &[Row]) -> Result<Vec<Value>, AllocError>
-    ensures { IfOk result (λ v. map view v.items ≡ rows_data labels.now rows.now) }
+    ensures values { IfOk result (λ v. map view v.items ≡ rows_data labels.now rows.now) }
+    ensures fit { IfOk result (λ _. AllByRecursion RowFits rows.now) }
 {
     let mut values = Vec::new(alloc);
     for (i, row) in rows.iter().enumerate() {
@@ -126,7 +160,8 @@ fn row_values(alloc: Global, labels: &[Text], rows: &[Row]) -> Result<Vec<Value>
 }
 
 fn system_value(alloc: Global, system: &System) -> Result<Value, AllocError>
-    ensures { IfOk result (λ v. view v ≡ matrix_data system.now) }
+    ensures value { IfOk result (λ v. view v ≡ matrix_data system.now) }
+    ensures fit { IfOk result (λ _. NumbersFit system.now) }
 {
     let columns = values(alloc, system.columns.items())?;
     let next = values(alloc, system.next.items())?;
@@ -147,7 +182,8 @@ fn system_value(alloc: Global, system: &System) -> Result<Value, AllocError>
 /// The matrix text of a system, version 2: one line of compact JSON with keys in byte order, numbers
 /// as strings, each term as its column and its factor, and each row with its label under `item`.
 pub fn write_system(alloc: Global, system: &System) -> Result<Vec<u8>, AllocError>
-    ensures { IfOk result (λ bytes. bytes.items ≡ matrix_text system.now) }
+    ensures text { IfOk result (λ bytes. bytes.items ≡ matrix_text system.now) }
+    ensures reads { IfOk result (λ bytes. ReadsAs bytes.items system.now) }
 {
     let value = system_value(alloc, system)?;
     let mut text = value.to_string(alloc)?;

@@ -1,7 +1,0 @@
-use Rattle.std.proofs.Common.{◌≡◌, ◌++◌, map, drop}
-use Rattle.serde_json.specs.View.{view}
-use Rattle.hys_sys.specs.Matrix.{rows_data}
-use Rattle.hys_sys.proofs.writer.row_values.Given as goal
-
-abbrev pub invariant-loop-i : goal.invariant-loop-i
-invariant-loop-i l = map view l.values.items ++ rows_data (drop l.i l.labels) (drop l.i l.rows) ≡ rows_data l.labels l.rows
