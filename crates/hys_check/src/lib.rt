@@ -4,10 +4,14 @@
 #![tactic(auto)]
 
 mod checker;
+#[cfg(test)]
+mod examples;
 pub mod laws;
 mod leaf;
 mod point;
 mod sum;
+#[cfg(test)]
+mod tests;
 mod verdict;
 mod walk;
 
