@@ -1,0 +1,13 @@
+-- Notes on these proofs.
+-- Judging: lists of checks, one behind the other, and a loop over one (what is still to be judged from here on fails
+-- first where the whole does). Recording: the records that take a text to its end are all that `csv` has of it.
+-- Running: transitions, one more at their end. Texting: fields after commas. Only: two runs are the same.
+pub mod Judging
+pub mod Recording
+pub mod Counting
+pub mod Starting
+pub mod Columning
+pub mod Placing
+pub mod Texting
+pub mod Running
+pub mod Only
