@@ -1,5 +1,5 @@
 -- The turns of loops over columns.
-use Rattle.std.proofs.Common.{◌≡◌, ◌⊎◌, ◌∙◌, ℕ, suc, ◌<◌, List, [], ◌∷◌, ◌++◌, Bool, true, false, Bor, cond, not, ◌&&◌, drop, take, length, get_or, map, Option, Some, None, refl, sym, ap, inl, inr}
+use Rattle.std.proofs.Common.{◌≡◌, ◌⊎◌, ℕ, suc, ◌<◌, List, [], ◌∷◌, ◌++◌, Bool, true, false, Bor, not, ◌&&◌, drop, take, length, get_or, map, Option, ap}
 use Rattle.std.specs.Prelude.{is_some}
 use Rattle.std.proofs.Math.Seq.{drop-cons}
 use Rattle.hys_ast.specs.declared.source.Kind.{Kind}
@@ -7,11 +7,10 @@ use Rattle.hys_prog.specs.declared.program.Name.{Name}
 use Rattle.hys_sim.specs.declared.fault.Which.{Which}
 use Rattle.hys_sim.specs.declared.fault.SimFault.{SimFault}
 use Rattle.hys_sim.specs.declared.fault.SimFault.TheVariants.{Column, Memory, Value}
-use Rattle.hys_sim.specs.Checks.{Check, check, first_fault, IsFault}
+use Rattle.hys_sim.specs.Checks.{check, first_fault, IsFault}
 use Rattle.hys_sim.specs.Fields.{field_reading, suits}
 use Rattle.hys_sim.specs.Tables.{column_checks, is_among, kind_checks, kind_under}
 use Rattle.hys_sim.proofs.Judging.{passed, shown, stopped}
-
 
 pub kinds_stop : (w : Which) (ns : List Name) (all : List (List ℕ)) (cols : List (Bor (List ℕ))) (i : ℕ) (d : Bor (List ℕ)) (f : SimFault) → i < length cols →
     first_fault (column_checks w ns [] all) ≡ first_fault (column_checks w ns (map (λ (t : Bor (List ℕ)). t.now) (take i cols)) (map (λ (t : Bor (List ℕ)). t.now) (drop i cols))) →

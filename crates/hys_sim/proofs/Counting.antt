@@ -1,12 +1,12 @@
 -- The turns of loops over the records that a reader has left.
-use Rattle.std.proofs.Common.{◌≡◌, ◌≢◌, ◌∙◌, ℕ, suc, List, [], ◌∷◌, ◌++◌, Bool, eqb, length, Option, Some, None, ap}
+use Rattle.std.proofs.Common.{◌≡◌, ◌≢◌, ◌∙◌, ℕ, suc, List, [], ◌∷◌, Bool, eqb, length, Option, Some, None, ap}
 use Rattle.std.proofs.lemmas.Bool.{eq-eqb, ne_eqb}
 use Rattle.hys_ast.specs.declared.source.Kind.{Kind}
 use Rattle.hys_sim.specs.declared.fault.Which.{Which}
 use Rattle.hys_sim.specs.declared.fault.SimFault.{SimFault}
 use Rattle.hys_sim.specs.declared.fault.SimFault.TheVariants.{Csv}
 use Rattle.hys_sim.specs.Checks.{Check, check, first_fault, IsFault}
-use Rattle.hys_sim.specs.Tables.{head_checks, length_checks, record_checks, records_checks}
+use Rattle.hys_sim.specs.Tables.{length_checks, record_checks, records_checks}
 use Rattle.hys_sim.proofs.Judging.{fault_first, passed, stopped}
 
 -- a record as long as the header, and one of another length

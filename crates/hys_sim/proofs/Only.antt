@@ -1,5 +1,5 @@
 -- Two runs are the same.
-use Rattle.std.proofs.Common.{◌≡◌, ◌∙◌, ◌+◌, ℕ, suc, List, [], ◌∷◌, length, Option, Some, None, refl, sym, ap, ap₂, subst, arith}
+use Rattle.std.proofs.Common.{◌≡◌, ◌∙◌, ◌+◌, List, [], ◌∷◌, length, Option, refl, sym, ap, ap₂, subst, arith}
 use Rattle.std.specs.List.{AllByRecursion}
 use Rattle.hys_number.specs.Number.{Number}
 use Rattle.hys_lin.specs.Sums.{Assignment}
@@ -7,11 +7,11 @@ use Rattle.hys_prog.specs.declared.program.Program.{Program}
 use Rattle.hys_prog.specs.declared.program.Order.{Order}
 use Rattle.hys_prog.specs.declared.stop.Stop.{Stop}
 use Rattle.hys_prog.specs.declared.stop.Stepped.{Stepped}
-use Rattle.hys_prog.specs.Steps.{places, is_state, is_input, is_auxiliary, Step}
-use Rattle.hys_prog.specs.Stops.{IsStepped, IsValued, first_stop, stops}
+use Rattle.hys_prog.specs.Steps.{places, is_state, is_input, Step}
+use Rattle.hys_prog.specs.Stops.{IsStepped, IsValued}
 use Rattle.hys_prog.specs.Exactness.{HasAssignments, HasOneAssignment, HasOneStep}
-use Rattle.hys_sim.specs.Runs.{Transition, IsTransition, Leads, IsStopped, StopsAt, IsRun}
-use Rattle.hys_sim.specs.Uniqueness.{AreSameRuns, HasOneRun}
+use Rattle.hys_sim.specs.Runs.{Transition, IsTransition, Leads, IsStopped, StopsAt}
+use Rattle.hys_sim.specs.Uniqueness.{HasOneRun}
 use Rattle.hys_sim.proofs.Placing.{aux_same}
 use Rattle.hys_sim.proofs.Running.{next_count}
 

@@ -12,7 +12,7 @@ use Rattle.hys_prog.specs.declared.stop.StepFault.TheVariants.{Stop as Stopped}
 use Rattle.hys_prog.specs.Steps.{places, is_state}
 use Rattle.hys_prog.specs.Stops.{Faulted, GivenWhere, IsStepped, IsValued, first_stop, stops}
 use Rattle.hys_prog.specs.Fitting.{FittingStep}
-use Rattle.hys_sim.specs.Runs.{Transition, IsTransition, Leads, IsStopped, StopsAt, IsRun}
+use Rattle.hys_sim.specs.Runs.{Transition, IsTransition, Leads, IsStopped, StopsAt}
 use Rattle.hys_sim.specs.Written.{header_text, last_text, transition_text, transitions_text}
 use Rattle.hys_sim.specs.Tables.{values_at}
 use Rattle.hys_sim.specs.Simulations.{IsRunOf}

@@ -1,13 +1,11 @@
 -- The start and the places of columns.
-use Rattle.std.proofs.Common.{◌≡◌, ◌∙◌, ◌≤◌, ℕ, suc, List, [], ◌∷◌, Bool, true, false, cond, leb, length, map, Some, None, Result, Ok, Err, IfOk, Vec, Global, refl, sym, ap, arith}
+use Rattle.std.proofs.Common.{◌≡◌, ◌∙◌, ◌≤◌, ℕ, List, [], ◌∷◌, Bool, true, false, cond, leb, length, map, Some, None, Result, Ok, Err, IfOk, Vec, Global, refl, sym, ap, arith}
 use Rattle.std.proofs.lemmas.Bool.{leb-true}
 use Rattle.std.specs.declared.alloc.AllocError.{AllocError}
 use Rattle.hys_number.specs.Number.{Number}
 use Rattle.hys_prog.specs.declared.program.Role.{Role}
-use Rattle.hys_prog.specs.declared.program.Name.{Name}
 use Rattle.hys_prog.specs.declared.program.Program.{Program}
 use Rattle.hys_prog.specs.Steps.{places}
-use Rattle.hys_sim.specs.declared.fault.SimFault.{SimFault}
 use Rattle.hys_sim.specs.declared.fault.SimFault.TheVariants.{Rows}
 use Rattle.hys_sim.specs.declared.fault.Which.TheVariants.{Start}
 use Rattle.hys_sim.specs.Checks.{first_fault}

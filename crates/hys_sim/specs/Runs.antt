@@ -24,7 +24,8 @@ pub record IsTransition (p : Program) (x u : List Number) (t : Transition) : Typ
 
 -- the transitions lead from a state through the front of the inputs to another state, and the rest of the inputs is
 -- left
-abbrev pub Leads : Program → List Number → List (List Number) → List Transition → List Number → List (List Number) → Type 0
+abbrev pub Leads :
+    Program → List Number → List (List Number) → List Transition → List Number → List (List Number) → Type 0
 Leads p x us [] y rest = (x ≡ y) × (us ≡ rest)
 Leads p x [] (t ∷ ts) y rest = ⊥
 Leads p x (u ∷ us) (t ∷ ts) y rest = IsTransition p x u t × Leads p t.stepped.next us ts y rest
@@ -42,7 +43,8 @@ StopsAt p o y (u ∷ us) stop = IsStopped p o y u stop
 
 -- The run from x through the inputs: it goes on up to the first step that isn't legal or has a partial value that
 -- doesn't fit, or to the end of the inputs.
-pub record IsRun (p : Program) (o : Order) (x : List Number) (us : List (List Number)) (ts : List Transition) (stop : Option Stop) : Type 0 where
+pub record IsRun (p : Program) (o : Order) (x : List Number) (us : List (List Number)) (ts : List Transition)
+    (stop : Option Stop) : Type 0 where
   pub reached : List Number
   pub rest : List (List Number)
   pub leads : Leads p x us ts reached rest

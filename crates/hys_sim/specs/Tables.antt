@@ -1,6 +1,6 @@
 -- Tables of START and INPUTS: their records, what is looked for in them, and the numbers that they stand for.
-use Rattle.std.specs.Prelude.{ℕ, suc, ◌+◌, ◌*◌, List, [], ◌∷◌, ◌++◌, Option, Some, None, is_some, unwrap_or, Bool, true, false, not, ◌&&◌, cond, map, filter, drop, get_or, length, codes, nat_eq, nat_le}
-use Rattle.std.specs.List.{list_any, list_all, position_or_len}
+use Rattle.std.specs.Prelude.{ℕ, suc, ◌*◌, List, [], ◌∷◌, ◌++◌, Option, Some, None, is_some, unwrap_or, Bool, false, not, ◌&&◌, cond, map, filter, drop, get_or, length, codes, nat_eq, nat_le}
+use Rattle.std.specs.List.{list_any, position_or_len}
 use Rattle.std.specs.Str.{bytes_eq, is_utf8}
 use Rattle.csv.specs.Reading.{records, default_config, strip_bom}
 use Rattle.hys_number.specs.Number.{Number}
@@ -13,7 +13,6 @@ use Rattle.hys_prog.specs.declared.program.Program.{Program}
 use Rattle.hys_prog.specs.Steps.{is_state, is_input, is_parameter}
 use Rattle.hys_sim.specs.declared.fault.Which.{Which}
 use Rattle.hys_sim.specs.declared.fault.Which.TheVariants.{Start, Inputs}
-use Rattle.hys_sim.specs.declared.fault.SimFault.{SimFault}
 use Rattle.hys_sim.specs.declared.fault.SimFault.TheVariants.{Csv, Rows, Column, Value, Limit}
 use Rattle.hys_sim.specs.Checks.{Check, check}
 use Rattle.hys_sim.specs.Fields.{stripped, field_reading, field_number, says, suits}

@@ -9,8 +9,8 @@ use Rattle.hys_prog.specs.Steps.{places, is_state, is_input}
 use Rattle.hys_sim.specs.Runs.{Transition, IsRun}
 
 -- two runs have the same transitions, whose assignments count by their auxiliaries, the same end and the same stop
-pub record AreSameRuns (p : Program) (o : Order) (x : List Number) (us : List (List Number)) (ts ss : List Transition) (a b : Option Stop)
-    (r : IsRun p o x us ts a) (s : IsRun p o x us ss b) : Type 0 where
+pub record AreSameRuns (p : Program) (o : Order) (x : List Number) (us : List (List Number))
+    (ts ss : List Transition) (a b : Option Stop) (r : IsRun p o x us ts a) (s : IsRun p o x us ss b) : Type 0 where
   pub transitions : ts ≡ ss
   pub reached : r.reached ≡ s.reached
   pub stop : a ≡ b

@@ -27,7 +27,8 @@ texts_of part p = map text_of (names_of part p)
 -- the step, and the names of the states, inputs, auxiliaries and outputs
 abbrev pub header_text : Program → List ℕ
 header_text p =
-    record_text (codes "step") (texts_of is_state p ++ (texts_of is_input p ++ (texts_of is_auxiliary p ++ texts_of is_output p)))
+    record_text (codes "step")
+    (texts_of is_state p ++ (texts_of is_input p ++ (texts_of is_auxiliary p ++ texts_of is_output p)))
 
 abbrev pub numbers_text : List Number → List (List ℕ)
 numbers_text numbers = map number_text numbers
@@ -50,7 +51,8 @@ empty_of part p = replicate (length (names_of part p)) []
 -- the number of steps, the state that is reached, and empty fields
 abbrev pub last_text : Program → ℕ → List Number → List ℕ
 last_text p n y =
-    record_text (decimal n) (numbers_text y ++ (empty_of is_input p ++ (empty_of is_auxiliary p ++ empty_of is_output p)))
+    record_text (decimal n)
+    (numbers_text y ++ (empty_of is_input p ++ (empty_of is_auxiliary p ++ empty_of is_output p)))
 
 abbrev pub run_text : Program → List Transition → List Number → List ℕ
 run_text p ts y = header_text p ++ (transitions_text 0 ts ++ last_text p (length ts) y)

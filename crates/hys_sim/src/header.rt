@@ -39,12 +39,7 @@ pub fn number_after(number: u32) -> Result<u32, AllocError>
 }
 
 /// The head of a table with columns for the names, where its records are as long as its header.
-pub fn head_of(
-    alloc: Global,
-    which: Which,
-    names: &[&Name],
-    text: &[u8],
-) -> Result<Head, SimFault>
+pub fn head_of(alloc: Global, which: Which, names: &[&Name], text: &[u8]) -> Result<Head, SimFault>
     ensures judged { Judged (head_checks which (map (λ k. k.now) names.now) (table_records text.now)) result }
     ensures count { IfOk result (λ h. h.count ≡ length (data_of (table_records text.now))) }
     ensures kinds { IfOk result (λ h.
@@ -112,7 +107,8 @@ fn texts_of(alloc: Global, which: Which, header: &ByteRecord) -> Result<Vec<&str
 
 // The field of the header at the place, stripped, where it is text.
 fn text_at(which: Which, header: &ByteRecord, place: usize) -> Result<&str, SimFault>
-    ensures judged { Judged (check (is_utf8 (stripped (get_or (fields_of header.now) place []))) (Csv which 0) ∷ []) result }
+    ensures judged { Judged
+        (check (is_utf8 (stripped (get_or (fields_of header.now) place []))) (Csv which 0) ∷ []) result }
     ensures value { IfOk result (λ t. t.now ≡ stripped (get_or (fields_of header.now) place [])) }
 {
     match str::from_utf8(field_at(header, place)) {
@@ -191,7 +187,8 @@ fn kinds_of(
     names: &[&Name],
     columns: &[&str],
 ) -> Result<Vec<Kind>, SimFault>
-    ensures judged { Judged (column_checks which (map (λ k. k.now) names.now) [] (map (λ t. t.now) columns.now)) result }
+    ensures judged { Judged
+        (column_checks which (map (λ k. k.now) names.now) [] (map (λ t. t.now) columns.now)) result }
     ensures value { IfOk result (λ ks.
         ks.items ≡ map (kind_of (map (λ k. k.now) names.now)) (map (λ t. t.now) columns.now)) }
 {
@@ -250,13 +247,9 @@ fn places_of(
 }
 
 // The place of the column with the text, where there is one.
-fn place_of(
-    alloc: Global,
-    which: Which,
-    text: &str,
-    columns: &[&str],
-) -> Result<usize, SimFault>
-    ensures judged { Judged (check (is_among text.now (map (λ t. t.now) columns.now)) (Column which text.now) ∷ []) result }
+fn place_of(alloc: Global, which: Which, text: &str, columns: &[&str]) -> Result<usize, SimFault>
+    ensures judged { Judged
+        (check (is_among text.now (map (λ t. t.now) columns.now)) (Column which text.now) ∷ []) result }
     ensures value { IfOk result (λ n. n ≡ column_place (map (λ t. t.now) columns.now) text.now) }
 {
     for (place, column) in columns.iter().enumerate() {

@@ -51,11 +51,7 @@ fn first_values(alloc: Global, places: &[usize], text: &[u8]) -> Result<Vec<Frac
 
 /// The places of the inputs' columns in a table, where it is one of inputs.
 #[tactic(auto, using(crate::proofs::Judging::fails_first, crate::proofs::Judging::fails_second, crate::proofs::Judging::fails_third, crate::proofs::Judging::none_after_none, crate::proofs::Judging::none_of_three, crate::proofs::Starting::place_count))]
-pub fn input_places(
-    alloc: Global,
-    program: &Program,
-    text: &[u8],
-) -> Result<Vec<usize>, SimFault>
+pub fn input_places(alloc: Global, program: &Program, text: &[u8]) -> Result<Vec<usize>, SimFault>
     ensures judged { Judged (inputs_checks program.now text.now) result }
     ensures places { IfOk result (λ ns.
         ns.items ≡ places_under (names_with is_input program.now) (columns_of (table_records text.now))) }

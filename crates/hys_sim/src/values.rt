@@ -40,12 +40,7 @@ pub fn judge_records(
 
 // The record has the number of its step, and numbers of the kinds; the number of the record.
 #[tactic(auto, using(crate::proofs::Judging::fails_behind, crate::proofs::Judging::passes_behind))]
-fn judge_record(
-    which: Which,
-    kinds: &[Kind],
-    step: u32,
-    row: &ByteRecord,
-) -> Result<u32, SimFault>
+fn judge_record(which: Which, kinds: &[Kind], step: u32, row: &ByteRecord) -> Result<u32, SimFault>
     ensures judged { Judged (record_checks which kinds.now step (fields_of row.now)) result }
     ensures value { IfOk result (λ n. n ≡ suc step) }
 {
@@ -70,12 +65,7 @@ fn says(number: u32, field: &[u8]) -> bool
 }
 
 // The fields of the record after the first are numbers of the kinds.
-fn judge_kinds(
-    which: Which,
-    number: u32,
-    kinds: &[Kind],
-    row: &ByteRecord,
-) -> Result<(), SimFault>
+fn judge_kinds(which: Which, number: u32, kinds: &[Kind], row: &ByteRecord) -> Result<(), SimFault>
     ensures { Judged (kind_checks which number (fields_of row.now) 1 kinds.now) result }
 {
     for (place, kind) in kinds.iter().enumerate() {

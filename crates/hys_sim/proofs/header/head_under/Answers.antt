@@ -1,4 +1,4 @@
-use Rattle.std.proofs.Common.{◌≡◌, ◌∙◌, List, ℕ, [], ◌∷◌, Bor, Some, None, map, length, refl, ap, sym}
+use Rattle.std.proofs.Common.{◌≡◌, ◌∙◌, List, ℕ, [], ◌∷◌, Bor, Some, map, length, refl, ap, sym}
 use Rattle.csv.specs.Records.{fields_of}
 use Rattle.hys_prog.specs.declared.program.Name.{Name}
 use Rattle.hys_sim.specs.declared.fault.SimFault.TheVariants.{Csv}

@@ -1,5 +1,3 @@
-use Rattle.std.proofs.Common.{Bor, map}
-use Rattle.hys_prog.specs.declared.program.Name.{Name}
 use Rattle.hys_sim.proofs.Columning.{kinds_stop}
 use Rattle.hys_sim.proofs.header.kinds_of.Goals as goal
 

@@ -1,4 +1,4 @@
-use Rattle.std.proofs.Common.{◌≡◌, ◌++◌, List, ℕ, Bool, true, [], codes, map, Bor, None, sym, rules}
+use Rattle.std.proofs.Common.{◌≡◌, ◌++◌, List, ℕ, true, [], codes, map, Bor, rules}
 use Rattle.std.specs.Str.{bytes_eq}
 use Rattle.std.proofs.lemmas.Bool.{not-false}
 use Rattle.hys_prog.specs.declared.program.Name.{Name}

@@ -1,7 +1,6 @@
 use Rattle.std.proofs.Common.{◌≡◌, ◌++◌, drop, map}
 use Rattle.std.specs.Prelude.{filter}
 use Rattle.hys_prog.specs.Walk.{is_role}
-use Rattle.hys_prog.specs.declared.program.Name.{Name}
 use Rattle.hys_sim.proofs.names.names_of.Given as goal
 
 abbrev pub invariant-loop-name : goal.invariant-loop-name

@@ -1,4 +1,4 @@
-use Rattle.std.proofs.Common.{Bor, List, ℕ, ◌≡◌, Some}
+use Rattle.std.proofs.Common.{Bor, List, ℕ, Some}
 use Rattle.csv.specs.Records.{fields_of}
 use Rattle.hys_sim.proofs.Recording.{reads_next, reads_on}
 use Rattle.hys_sim.proofs.records.next.Goals as goal

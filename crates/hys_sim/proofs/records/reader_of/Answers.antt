@@ -1,4 +1,4 @@
-use Rattle.std.proofs.Common.{Bor, List, ℕ, ◌≡◌, ◌∙◌, Some, Option, inl, inr, ap, ap₂, sym, refl}
+use Rattle.std.proofs.Common.{Bor, List, ℕ, ◌∙◌, Some, inr}
 use Rattle.csv.specs.Reading.{strip_bom}
 use Rattle.csv.specs.declared.parser.State.TheVariants as st
 use Rattle.hys_sim.proofs.Recording.{left_at}

@@ -1,5 +1,3 @@
-use Rattle.std.proofs.Common.{◌∷◌, []}
-use Rattle.hys_sim.specs.Simulations.{IsSimulated}
 use Rattle.hys_sim.proofs.simulation.simulate.Goals as goal
 
 pub returns-in-Ok-run-clause-simulated : goal.returns-in-Ok-run-clause-simulated

@@ -1,7 +1,4 @@
-use Rattle.std.proofs.Common.{◌≡◌, ◌∙◌, ◌∷◌, [], List, ℕ, Bool, true, false, Bor, Some, Result, Ok, Err, IfOk, length, map, sym, ap}
-use Rattle.csv.specs.Records.{fields_of}
-use Rattle.hys_sim.specs.Recorded.{records_left}
-use Rattle.hys_sim.specs.Tables.{data_of, table_records, values_at}
+use Rattle.hys_sim.specs.Tables.{data_of, table_records}
 use Rattle.hys_sim.proofs.Starting.{first_answer}
 use Rattle.hys_sim.proofs.table.first_values.Goals as goal
 

@@ -1,9 +1,9 @@
-use Rattle.std.proofs.Common.{◌≡◌, ◌∙◌, ◌+◌, suc, Bool, true, [], get_or, ap, sym, rules, add-one}
+use Rattle.std.proofs.Common.{◌≡◌, true, get_or, rules, add-one}
 use Rattle.std.proofs.lemmas.Bool.{not-false}
 use Rattle.csv.specs.Records.{fields_of}
 use Rattle.hys_ast.specs.declared.source.Kind.TheVariants.{Real}
 use Rattle.hys_frac.specs.Read.{reading}
-use Rattle.hys_sim.specs.Fields.{field_reading, suits}
+use Rattle.hys_sim.specs.Fields.{suits}
 use Rattle.hys_sim.proofs.Columning.{kind_more}
 use Rattle.hys_sim.proofs.values.judge_kinds.Goals as goal
 

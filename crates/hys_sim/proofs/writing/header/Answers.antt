@@ -1,4 +1,4 @@
-use Rattle.std.proofs.Common.{◌≡◌, ◌∙◌, List, ℕ, Bor, codes, map, ap}
+use Rattle.std.proofs.Common.{◌≡◌, ◌∙◌, Bor, codes, map, ap}
 use Rattle.hys_prog.specs.declared.program.Name.{Name}
 use Rattle.hys_prog.specs.Programs.{text_of}
 use Rattle.hys_prog.specs.Steps.{is_state, is_input, is_auxiliary, is_output}

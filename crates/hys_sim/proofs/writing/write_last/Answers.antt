@@ -1,4 +1,4 @@
-use Rattle.std.proofs.Common.{◌≡◌, ◌∙◌, List, ℕ, [], Bor, length, map, replicate, ap, sym, arith}
+use Rattle.std.proofs.Common.{◌≡◌, ◌∙◌, List, ℕ, [], Bor, length, replicate, ap, sym, arith}
 use Rattle.std.specs.Fmt.{decimal}
 use Rattle.hys_prog.specs.declared.program.Name.{Name}
 use Rattle.hys_prog.specs.Steps.{is_input, is_auxiliary, is_output}
