@@ -1,0 +1,9 @@
+pub mod Checks
+pub mod Fields
+pub mod Tables
+pub mod Recorded
+pub mod Runs
+pub mod Written
+pub mod Simulations
+pub mod Uniqueness
+pub mod Worked
