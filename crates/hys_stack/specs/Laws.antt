@@ -1,5 +1,5 @@
 -- What the laws of this crate say.
-use Rattle.std.specs.Prelude.{◌≡◌, List}
+use Rattle.std.specs.Prelude.{◌≡◌, ℕ, List}
 use Rattle.hys_number.specs.Number.{Number}
 use Rattle.hys_number.specs.Ops.{◌≤ₙ◌}
 use Rattle.hys_lin.specs.Sums.{at, value}
@@ -9,7 +9,9 @@ use Rattle.hys_sys.specs.Exact.{Automaton, Steps, Exact}
 use Rattle.hys_sys.specs.declared.system.System.{System}
 use Rattle.hys_relax.specs.Node.{StackedSolution}
 use Rattle.hys_stack.specs.declared.request.Request.{Request}
+use Rattle.hys_stack.specs.declared.fault.RequestFault.{RequestFault}
 use Rattle.hys_stack.specs.Requests.{IsRequestOf}
+use Rattle.hys_stack.specs.Texts.{IsTextOf, IsCause}
 use Rattle.hys_stack.specs.Stacking.{IsStacked}
 use Rattle.hys_stack.specs.Trajectories.{Trajectory, IsTrajectory, StandsFor, trajectory_cost, IsOneToOne, KeepsKinds, IsCheapest}
 
@@ -35,3 +37,11 @@ BoundBounds A Step = (S : System) (r : Request) (p : Problem) (z : Number) → I
 abbrev pub NoneIsNone : Automaton → Steps → Type 0
 NoneIsNone A Step = (S : System) (r : Request) (p : Problem) → IsOneToOne A Step S r p →
     ((u : List Number) → StackedSolution p u → ⊥) → (T : Trajectory) → IsTrajectory A Step r T → ⊥
+
+-- a text that stands for a request has no cause to be refused
+abbrev pub NoneIsBoth : Type 0
+NoneIsBoth = (S : System) (text : List ℕ) (r : Request) (f : RequestFault) → IsTextOf S text r → IsCause S text f → ⊥
+
+-- a text stands for at most one request
+abbrev pub StandForOne : Type 0
+StandForOne = (S : System) (text : List ℕ) (r s : Request) → IsTextOf S text r → IsTextOf S text s → r ≡ s

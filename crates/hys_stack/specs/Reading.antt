@@ -19,6 +19,9 @@ use Rattle.hys_stack.specs.Requests.{state_columns, is_fresh, most_steps, most_n
 use Rattle.hys_stack.specs.declared.request.Pick.{Pick}
 use Rattle.hys_stack.specs.declared.request.Pick.TheVariants.{Bound, Depth}
 use Rattle.hys_stack.specs.declared.request.Request.{Request}
+use Rattle.hys_stack.specs.declared.reader.Front.{Front}
+use Rattle.hys_stack.specs.declared.reader.Search.{Search}
+use Rattle.hys_stack.specs.declared.reader.Back.{Back}
 use Rattle.hys_stack.specs.declared.fault.RequestFault.{RequestFault}
 use Rattle.hys_stack.specs.declared.fault.RequestFault.TheVariants as fault
 
@@ -225,25 +228,66 @@ is_counted most n = nat_lt 0 n && not (nat_lt most n)
 abbrev pub is_small : ℕ → ℕ → ℕ → Bool
 is_small horizon nodes weight = not (nat_lt most_stacked (horizon * weight)) && not (nat_lt most_work (nodes * (horizon * weight)))
 
+unfoldable pub count_fault : ℕ → List ℕ → ℕ → Option RequestFault
+count_fault most what n = unless (is_counted most n) (fault.Limit what)
+
+unfoldable pub size_fault : ℕ → ℕ → ℕ → Option RequestFault
+size_fault horizon nodes weight = unless (is_small horizon nodes weight) fault.TooLarge
+
 unfoldable pub limit_fault : System → Request → Option RequestFault
 limit_fault S r =
-    or_else (unless (is_counted most_steps r.horizon) (fault.Limit (codes "horizon")))
-    (or_else (unless (is_counted most_nodes r.nodes) (fault.Limit (codes "nodes")))
-    (unless (is_small r.horizon r.nodes S.weight) fault.TooLarge))
+    or_else (count_fault most_steps (codes "horizon") r.horizon)
+    (or_else (count_fault most_nodes (codes "nodes") r.nodes) (size_fault r.horizon r.nodes S.weight))
 
 -- the fields in byte order of their keys
+unfoldable pub counts_fault : Data → Option RequestFault
+counts_fault d =
+    or_else (whole_fault (codes "horizon") (member_in (codes "horizon") d)) (whole_fault (codes "nodes") (member_in (codes "nodes") d))
+
+abbrev pub counts_in : Data → ℕ × ℕ
+counts_in d = (whole_in (member_in (codes "horizon") d), whole_in (member_in (codes "nodes") d))
+
+unfoldable pub search_fault : Data → Option RequestFault
+search_fault d = or_else (counts_fault d) (pick_fault (codes "pick") (member_in (codes "pick") d))
+
 unfoldable pub front_fault : System → Data → Option RequestFault
-front_fault S d =
-    or_else (if_given (final_fault (codes "final") S) (get (codes "final") d))
-    (or_else (whole_fault (codes "horizon") (member_in (codes "horizon") d))
-    (or_else (whole_fault (codes "nodes") (member_in (codes "nodes") d))
-    (pick_fault (codes "pick") (member_in (codes "pick") d))))
+front_fault S d = or_else (if_given (final_fault (codes "final") S) (get (codes "final") d)) (search_fault d)
 
 unfoldable pub back_fault : System → Data → Option RequestFault
 back_fault S d =
     or_else (start_fault (codes "start") S (member_in (codes "start") d))
     (if_given (step_fault (codes "step") S) (get (codes "step") d))
 
+unfoldable pub fields_fault : System → Data → Option RequestFault
+fields_fault S d = or_else (front_fault S d) (back_fault S d)
+
+-- the root, its fields, and then the limits
+unfoldable pub value_fault : System → Data → Option RequestFault
+value_fault S d = or_else (root_fault d) (fields_fault S d)
+
 unfoldable pub request_fault : System → Data → Option RequestFault
-request_fault S d =
-    or_else (root_fault d) (or_else (front_fault S d) (or_else (back_fault S d) (limit_fault S (request_in S d))))
+request_fault S d = or_else (value_fault S d) (limit_fault S (request_in S d))
+
+-- ---- what single functions read
+-- the value has each key that a request must have
+abbrev pub HasKeys : Data → Type 0
+HasKeys d = root_fault d ≡ None
+
+-- the parts before the start are those of the value
+pub record IsFront (S : System) (d : Data) (f : Front) : Type 0 where
+  pub final_cost : f.final_cost ≡ final_in S (member_in (codes "final") d)
+  pub horizon : f.horizon ≡ whole_in (member_in (codes "horizon") d)
+  pub nodes : f.nodes ≡ whole_in (member_in (codes "nodes") d)
+  pub pick : f.pick ≡ pick_in (member_in (codes "pick") d)
+
+-- and the parts from it on
+pub record IsBack (S : System) (d : Data) (b : Back) : Type 0 where
+  pub start : b.start ≡ start_in S (member_in (codes "start") d)
+  pub step_cost : b.step_cost ≡ (step_in S (member_in (codes "step") d)).0
+  pub output_cost : b.output_cost ≡ (step_in S (member_in (codes "step") d)).1
+
+-- and those that a search is told
+pub record IsSearch (d : Data) (s : Search) : Type 0 where
+  pub horizon : s.horizon ≡ whole_in (member_in (codes "horizon") d)
+  pub nodes : s.nodes ≡ whole_in (member_in (codes "nodes") d)
+  pub pick : s.pick ≡ pick_in (member_in (codes "pick") d)

@@ -4,7 +4,7 @@ ghost use Rattle.hys_sys.specs.Exact.{Automaton};
 ghost use Rattle.hys_relax.specs.Worked.{worked};
 ghost use Rattle.hys_stack.specs.Stacking.{IsStacked};
 ghost use Rattle.hys_stack.specs.Worked.{worked_system, worked_request};
-ghost use Rattle.hys_stack.specs.Laws.{SolutionsAreTrajectories, LeastIsCheapest, BoundBounds, NoneIsNone};
+ghost use Rattle.hys_stack.specs.Laws.{SolutionsAreTrajectories, LeastIsCheapest, BoundBounds, NoneIsNone, NoneIsBoth, StandForOne};
 
 use hys_sys::laws::Stepping;
 
@@ -32,4 +32,14 @@ pub fn none_is_none<A: Stepping>()
 /// A worked problem is the stacked one of its system and its request.
 pub fn worked_problem()
     ensures { IsStacked worked_system worked_request worked }
+{}
+
+/// A text that stands for a request for a system has no cause to be refused.
+pub fn not_both()
+    ensures { NoneIsBoth }
+{}
+
+/// A text stands for at most one request for a system.
+pub fn one_request()
+    ensures { StandForOne }
 {}
