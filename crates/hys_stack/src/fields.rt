@@ -71,7 +71,11 @@ fn step_names<'s>(alloc: Global, system: &'s System) -> Result<Vec<&'s str>, All
 }
 
 /// The numbers under the names of the states.
-pub fn state_numbers(alloc: Global, system: &System, value: &Value) -> Result<List<Frac>, AllocError>
+pub fn state_numbers(
+    alloc: Global,
+    system: &System,
+    value: &Value,
+) -> Result<List<Frac>, AllocError>
     ensures { IfOk result (λ numbers. numbers ≡ map (weight_in (view value.now)) (state_names system.now)) }
 {
     let mut numbers = Vec::new(alloc);
@@ -102,7 +106,11 @@ pub fn read_final(
 }
 
 // The weights of the columns; those whose names begin with `#` have none.
-fn column_weights(alloc: Global, columns: &[Column], value: &Value) -> Result<List<Frac>, AllocError>
+fn column_weights(
+    alloc: Global,
+    columns: &[Column],
+    value: &Value,
+) -> Result<List<Frac>, AllocError>
     ensures { IfOk result (λ ws. ws ≡ map (column_weight (view value.now)) columns.now) }
 {
     let mut weights = Vec::new(alloc);
@@ -121,7 +129,11 @@ fn column_weight(column: &Column, value: &Value) -> Frac
     weight(value, column.name.text())
 }
 
-fn output_weights(alloc: Global, outputs: &[Output], value: &Value) -> Result<List<Frac>, AllocError>
+fn output_weights(
+    alloc: Global,
+    outputs: &[Output],
+    value: &Value,
+) -> Result<List<Frac>, AllocError>
     ensures { IfOk result (λ ws. ws ≡ map (output_weight (view value.now)) outputs.now) }
 {
     let mut weights = Vec::new(alloc);

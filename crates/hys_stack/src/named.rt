@@ -13,11 +13,7 @@ use serde_json::{Map, Value};
 use std::alloc::Global;
 
 // Whether each value is a string.
-fn check_shapes(
-    alloc: Global,
-    members: &Map<String, Value>,
-    path: &str,
-) -> Result<(), RequestFault>
+fn check_shapes(alloc: Global, members: &Map<String, Value>, path: &str) -> Result<(), RequestFault>
     ensures { Answers (shape_fault path.now (pairs_of (members_view members.now.entries))) (λ _. Unit {0}) result }
 {
     for (key, value) in members.iter() {

@@ -23,9 +23,13 @@ use std::alloc::Global;
 
 /// The most bytes of a text that is read.
 pub const MOST_BYTES: usize = 67108864;
+
 const MOST_STEPS: u32 = 50;
+
 const MOST_NODES: u32 = 500000;
+
 const MOST_STACKED: u64 = 600;
+
 const MOST_WORK: u64 = 500000;
 
 fn check_missing(alloc: Global, value: &Value, keys: &[&str]) -> Result<(), RequestFault>
@@ -85,7 +89,11 @@ fn check_root(alloc: Global, value: &Value) -> Result<(), RequestFault>
 }
 
 // What may be left out is read of nothing.
-fn read_given_final(alloc: Global, system: &System, root: &Value) -> Result<List<Frac>, RequestFault>
+fn read_given_final(
+    alloc: Global,
+    system: &System,
+    root: &Value,
+) -> Result<List<Frac>, RequestFault>
     ensures { Answers (if_given (final_fault (codes "final") system.now) (get (codes "final") (view root.now)))
         (λ ws. ws ≡ final_in system.now (member_in (codes "final") (view root.now))) result }
 {
