@@ -3,6 +3,9 @@
 --   one proof. A `data` with a constructor for each way a run may end, with lemmas `by_..` named by `using(..)`,
 --   proves every branch with no file.
 pub mod Ends
+pub mod Stages
+pub mod Asking
 pub mod Compiling
+pub mod Migrating
 pub mod Consequences
 pub mod Tolerances

@@ -7,6 +7,7 @@ use Rattle.hys_frac.specs.Compare.{number_cmp}
 use Rattle.hys_frac.specs.Read.{reading}
 use Rattle.hys_frac.specs.declared.read.FracFault.{FracFault}
 
+-- ---- tolerances
 -- the tolerance of guards without one of their own, where the words have none
 abbrev pub usual_tolerance : Number
 usual_tolerance = int (pos 1) /ₙ int (pos 1000)
@@ -20,17 +21,42 @@ if_positive (Err e) = None
 abbrev pub tolerance_of : List ℕ → Option Number
 tolerance_of word = if bytes_eq (take 4 word) (codes "eps=") then if_positive (reading (drop 4 word)) else None
 
-abbrev pub with_tolerance : List ℕ → List ℕ → Option Number → Option (List ℕ × List ℕ × Number)
-with_tolerance source target (Some tolerance) = Some (source, target, tolerance)
-with_tolerance source target None = None
+-- ---- commands, with the names of the files that they read and put
+pub data Command : Type 0 where
+  -- a source, and the matrix text that is put
+  compile : List ℕ → List ℕ → Number → Command
+  -- a matrix text of either version, and the one of the newest that is put
+  migrate : List ℕ → List ℕ → Command
 
--- the source, the target and the tolerance, where the words are `compile SRC MLD` or `compile SRC MLD eps=F`
-abbrev pub form_of : List (List ℕ) → Option (List ℕ × List ℕ × Number)
-form_of [] = None
-form_of (a ∷ []) = None
-form_of (a ∷ b ∷ []) = None
-form_of (command ∷ source ∷ target ∷ []) =
-    if bytes_eq command (codes "compile") then Some (source, target, usual_tolerance) else None
-form_of (command ∷ source ∷ target ∷ word ∷ []) =
-    if bytes_eq command (codes "compile") then with_tolerance source target (tolerance_of word) else None
-form_of (a ∷ b ∷ c ∷ d ∷ e ∷ rest) = None
+-- a command whose last argument is the tolerance
+abbrev pub with_tolerance : (Number → Command) → Option Number → Option Command
+with_tolerance make None = None
+with_tolerance make (Some tolerance) = Some (make tolerance)
+
+-- `compile SRC MLD` and `compile SRC MLD eps=F`
+abbrev pub compile_form : List (List ℕ) → Option Command
+compile_form [] = None
+compile_form (a ∷ []) = None
+compile_form (a ∷ b ∷ []) = None
+compile_form (command ∷ source ∷ target ∷ []) =
+    if bytes_eq command (codes "compile") then Some (compile source target usual_tolerance) else None
+compile_form (command ∷ source ∷ target ∷ word ∷ []) =
+    if bytes_eq command (codes "compile") then with_tolerance (compile source target) (tolerance_of word) else None
+compile_form (a ∷ b ∷ c ∷ d ∷ e ∷ rest) = None
+
+-- `migrate OLD NEW`
+abbrev pub migrate_form : List (List ℕ) → Option Command
+migrate_form [] = None
+migrate_form (a ∷ []) = None
+migrate_form (a ∷ b ∷ []) = None
+migrate_form (command ∷ old ∷ new ∷ []) = if bytes_eq command (codes "migrate") then Some (migrate old new) else None
+migrate_form (a ∷ b ∷ c ∷ d ∷ rest) = None
+
+-- one form or the other; no words have two, since each begins with its own word
+abbrev pub or_form : Option Command → Option Command → Option Command
+or_form None other = other
+or_form (Some c) other = Some c
+
+-- the command that the words after the program's name ask for
+unfoldable pub form_of : List (List ℕ) → Option Command
+form_of words = or_form (compile_form words) (migrate_form words)

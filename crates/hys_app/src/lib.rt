@@ -2,11 +2,16 @@
 #![tactic(auto)]
 
 mod compile;
+mod file_lines;
 mod finish;
 pub mod laws;
 mod lines;
+mod matrices;
+mod migrate;
 mod number;
 mod outcome;
+mod source;
+mod stage;
 mod status;
 #[cfg(test)]
 mod tests;

@@ -15,7 +15,7 @@ use std::alloc::{AllocError, Global};
 pub fn describe_forms() -> &'static str
     ensures { result.now ≡ lines.usage_line }
 {
-    "usage: hysdel compile SRC MLD | sim SRC START INPUTS OUT | plan SRC REQ ANS | check MLD REQ ANS\n"
+    "usage: hysdel compile SRC MLD | sim SRC START INPUTS OUT | plan SRC REQ ANS | check MLD REQ ANS | demo K | migrate OLD NEW\n"
 }
 
 // The name can't be read.
@@ -83,16 +83,25 @@ fn describe_ends(alloc: Global, place: Place, low: Frac, high: Frac) -> Result<S
     format!(in alloc; "{at}: {low} {high}")
 }
 
+/// Two operands whose result doesn't fit.
+#[tactic(auto, unfolding(crate::specs::Lines::lost_text))]
+pub fn describe_lost(alloc: Global, lost: Lost) -> Result<String, AllocError>
+    ensures { IfOk result (λ s. string_bytes s ≡ lines.lost_text lost) }
+{
+    let left = lost.left.text(alloc)?;
+    let sign = name_operation(lost.op);
+    let right = lost.right.text(alloc)?;
+    format!(in alloc; "{left} {sign} {right}")
+}
+
 // Two operands whose result doesn't fit, behind their place.
 #[tactic(auto, unfolding(crate::specs::Lines::detail_text))]
 fn describe_range(alloc: Global, place: Place, lost: Lost) -> Result<String, AllocError>
     ensures { IfOk result (λ s. string_bytes s ≡ lines.detail_text (shown.Range place lost)) }
 {
     let at = describe_place(alloc, place)?;
-    let left = lost.left.text(alloc)?;
-    let sign = name_operation(lost.op);
-    let right = lost.right.text(alloc)?;
-    format!(in alloc; "{at}: {left} {sign} {right}")
+    let operands = describe_lost(alloc, lost)?;
+    format!(in alloc; "{at}: {operands}")
 }
 
 // A tolerance, behind its place.
@@ -157,4 +166,13 @@ pub fn describe_system(alloc: Global, system: &System) -> Result<String, AllocEr
     let columns = system.columns.items().len();
     let rows = system.rows.items().len();
     format!(in alloc; "compiled: {columns} columns, {rows} rows\n")
+}
+
+// A matrix text of the newest version is put.
+#[tactic(auto, unfolding(crate::specs::Lines::migrated_line))]
+pub fn describe_migrated(alloc: Global, system: &System) -> Result<String, AllocError>
+    ensures { IfOk result (λ s. string_bytes s ≡ lines.migrated_line system.now) }
+{
+    let rows = system.rows.items().len();
+    format!(in alloc; "migrated: {rows} rows\n")
 }

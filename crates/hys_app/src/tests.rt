@@ -19,7 +19,7 @@ const OPEN_AT_END: &[u8] = b"source refused: 4 syntax at 1:122\n";
 const EMPTY: &[u8] = b"source refused: 4 syntax at 1:1\n";
 
 const USAGE: &[u8] =
-    b"usage: hysdel compile SRC MLD | sim SRC START INPUTS OUT | plan SRC REQ ANS | check MLD REQ ANS\n";
+    b"usage: hysdel compile SRC MLD | sim SRC START INPUTS OUT | plan SRC REQ ANS | check MLD REQ ANS | demo K | migrate OLD NEW\n";
 
 // Files with this source and an old target, of which this call fails.
 fn files(alloc: Global, source: &str, failing: u64) -> Result<MemFiles, AllocError> {
@@ -365,6 +365,40 @@ fn sources(rt: HostRuntime) -> Result<(), Fail> {
     for (source, wanted) in rows {
         let text = compiled(alloc, source)?;
         assert!(rt; text.as_str().contains(wanted), "{source}: {text}");
+    }
+    Ok(())
+}
+
+// The smallest source's matrix text of version 1.
+const OLD: &str =
+    "{\"columns\":[{\"box\":[\"0\",\"10\"],\"kind\":\"real\",\"name\":\"x\",\"role\":\"state\"},{\"box\":[\"-1\",\"1\"],\"kind\":\"real\",\"name\":\"u\",\"role\":\"input\"}],\"format\":\"hysdel-mld\",\"next\":[{\"constant\":\"0\",\"terms\":[[0,\"1\"],[1,\"1\"]]}],\"outputs\":[],\"rows\":[],\"system\":\"s\",\"version\":1,\"weight\":2}\n";
+
+// The same of version 2.
+const NEW: &str =
+    "{\"columns\":[{\"box\":[\"0\",\"10\"],\"kind\":\"real\",\"name\":\"x\",\"role\":\"state\"},{\"box\":[\"-1\",\"1\"],\"kind\":\"real\",\"name\":\"u\",\"role\":\"input\"}],\"format\":\"hysdel-mld\",\"next\":[{\"constant\":\"0\",\"terms\":[[0,\"1\"],[1,\"1\"]]}],\"outputs\":[],\"rows\":[],\"system\":\"s\",\"version\":2,\"weight\":2}\n";
+
+#[test]
+fn migrations(rt: HostRuntime) -> Result<(), Fail> {
+    let rows = [
+        (OLD, Status::Done, "migrated: 0 rows\n", NEW),
+        (NEW, Status::Done, "migrated: 0 rows\n", NEW),
+        ("{", Status::Input, "file refused: b.hys json\n", "old"),
+        (
+            "{}",
+            Status::Input,
+            "file refused: b.hys shape columns\n",
+            "old",
+        ),
+    ];
+    for (old, status, printed, new) in rows {
+        let alloc = rt.alloc();
+        let mut files = files(alloc, old, 0)?;
+        let mut out = MemSink::new(alloc, Vec::new(alloc));
+        let given = words(alloc, &["migrate", "b.hys", "b.json"])?;
+        let ended = run(alloc, &given, &mut files, &mut out);
+        assert_eq!(rt; ended, status, "{printed}");
+        assert_eq!(rt; out.bytes(), printed.as_bytes());
+        assert_eq!(rt; files.get("b.json").unwrap_or(b"none"), new.as_bytes());
     }
     Ok(())
 }

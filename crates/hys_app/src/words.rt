@@ -2,7 +2,7 @@ ghost use Rattle.std.specs.Prelude.{◌≡◌, codes, map, string_bytes, option_
 ghost use Rattle.hys_number.specs.Ops.{◌<ₙ◌, whole};
 ghost use Rattle.std.specs.Ordering.{is_lt};
 ghost use Rattle.hys_frac.specs.Compare.{number_cmp};
-ghost use Rattle.hys_app.specs.Words.{form_of, tolerance_of, usual_tolerance as usual};
+ghost use Rattle.hys_app.specs.Words.{compile, migrate, compile_form as compiling, migrate_form as migrating, tolerance_of, usual_tolerance as usual};
 
 use hys_frac::Frac;
 
@@ -58,7 +58,7 @@ fn read_tolerance(word: &str) -> Option<Frac>
 
 // The source, the target and the tolerance of `compile SRC MLD` and of `compile SRC MLD eps=F`.
 pub fn compile_form(words: &[String]) -> Option<(&str, &str, Frac)>
-    ensures form { option_map (λ p. (p.0.now, p.1.now, p.2)) result ≡ form_of (map string_bytes words.now) }
+    ensures form { option_map (λ p. compile p.0.now p.1.now p.2) result ≡ compiling (map string_bytes words.now) }
     ensures above { IfSome result (λ p. whole 0 <ₙ p.2) }
 {
     match words {
@@ -75,6 +75,22 @@ pub fn compile_form(words: &[String]) -> Option<(&str, &str, Frac)>
                     Some(tolerance) => Some((source.as_str(), target.as_str(), tolerance)),
                     None => None,
                 }
+            } else {
+                None
+            }
+        }
+        _ => None,
+    }
+}
+
+// The old and the new name of `migrate OLD NEW`.
+pub fn migrate_form(words: &[String]) -> Option<(&str, &str)>
+    ensures form { option_map (λ p. migrate p.0.now p.1.now) result ≡ migrating (map string_bytes words.now) }
+{
+    match words {
+        [command, old, new] => {
+            if command.as_str() == "migrate" {
+                Some((old.as_str(), new.as_str()))
             } else {
                 None
             }

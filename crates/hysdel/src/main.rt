@@ -1,11 +1,10 @@
 //! The program: the system's files, the standard output, and the words after the program's name.
 #![tactic(auto)]
 
-ghost use Rattle.std.specs.Prelude.{◌≡◌, List, ℕ, Some, None, map, string_bytes, IfOk, OnErr};
-ghost use Rattle.hys_number.specs.Number.{Number};
+ghost use Rattle.std.specs.Prelude.{◌≡◌, map, string_bytes, IfOk, OnErr};
 ghost use Rattle.hys_app.specs.Statuses.{number_of};
 ghost use Rattle.hys_app.specs.Ends.{outside, Ends};
-ghost use Rattle.hys_app.specs.Compiling.{IsCompileOutcome, IsUsage};
+ghost use Rattle.hys_app.specs.Commands.{IsOutcomeOf};
 ghost use Rattle.hys_app.specs.Words.{form_of};
 
 use hys_app::{Status, run};
@@ -35,13 +34,8 @@ fn end<F: Files, S: Sink>(
     out: &mut S,
 ) -> u8
     ensures memory { OnErr words (result ≡ 10) }
-    ensures no_form { IfOk words (λ w. form_of (map string_bytes w.items) ≡ None →
-        (status : Status) × (result ≡ number_of status)
-        × Ends IsUsage status (outside F.Files S.Sink files.old out.old) (outside F.Files S.Sink files.new out.new)) }
-    ensures compile { IfOk words (λ w. (source target : List ℕ) (tolerance : Number) →
-        form_of (map string_bytes w.items) ≡ Some (source, target, tolerance) →
-        (status : Status) × (result ≡ number_of status)
-        × Ends (IsCompileOutcome tolerance (F.held files.old) source target) status
+    ensures ends { IfOk words (λ w. (status : Status) × (result ≡ number_of status)
+        × Ends (IsOutcomeOf (F.held files.old) (form_of (map string_bytes w.items))) status
         (outside F.Files S.Sink files.old out.old) (outside F.Files S.Sink files.new out.new)) }
 {
     match words {
