@@ -15,3 +15,4 @@ pub mod Placing
 pub mod Texting
 pub mod Running
 pub mod Only
+pub mod Tanks

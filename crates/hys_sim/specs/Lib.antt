@@ -7,3 +7,4 @@ pub mod Written
 pub mod Simulations
 pub mod Uniqueness
 pub mod Worked
+pub mod Tank

@@ -10,6 +10,8 @@ mod records;
 mod runs;
 mod simulation;
 mod table;
+#[cfg(test)]
+mod tests;
 mod values;
 mod writing;
 

@@ -1,5 +1,5 @@
 -- A value in which nothing is wrong stands for a request for the system.
-use Rattle.std.proofs.Common.{◌≡◌, ◌⊎◌, ℕ, zero, suc, ◌+◌, ◌*◌, ◌<◌, ◌≤◌, List, [], ◌∷◌, length, map, Option, Some, None, Bool, true, false, not, cond, ◌&&◌, ◌||◌, refl, sym, ◌∙◌, ap, subst, arith, inl, inr, codes}
+use Rattle.std.proofs.Common.{◌≡◌, ◌⊎◌, ℕ, zero, suc, ◌*◌, ◌≤◌, List, [], ◌∷◌, map, Option, Some, None, Bool, true, false, not, cond, ◌&&◌, ◌||◌, refl, sym, ◌∙◌, ap, subst, arith, inl, inr, codes}
 use Rattle.std.specs.Prelude.{nat_lt}
 use Rattle.std.specs.declared.cmp.Ordering.{Ordering}
 use Rattle.std.specs.declared.cmp.Ordering.TheVariants.{Less, Equal, Greater}
@@ -12,18 +12,15 @@ use Rattle.hys_number.specs.Ops.{whole, ◌≤ₙ◌, ◌<ₙ◌}
 use Rattle.hys_number.proofs.Bools.{and_both, lt_true}
 use Rattle.hys_number.proofs.Order.{le_of_lt, le_refl'}
 use Rattle.hys_frac.specs.Compare.{number_cmp, number_ranks}
-use Rattle.hys_lin.specs.Bits.{IsBit}
-use Rattle.hys_lin.specs.Sums.{Within}
 use Rattle.hys_json.specs.Values.{member_in}
 use Rattle.hys_sys.specs.Solution.{IsOfKind}
 use Rattle.hys_sys.specs.declared.system.Kind2.{Kind2}
 use Rattle.hys_sys.specs.declared.system.Kind2.TheVariants as kind
 use Rattle.hys_sys.specs.declared.system.Column.{Column}
-use Rattle.hys_sys.specs.declared.system.Output.{Output}
 use Rattle.hys_sys.specs.declared.system.System.{System}
 use Rattle.hys_stack.specs.declared.fault.RequestFault.{RequestFault}
-use Rattle.hys_stack.specs.Requests.{state_columns, is_fresh, IsStart, AreStarts, AreWeights, IsRequestOf, most_steps, most_nodes, most_stacked, most_work}
-use Rattle.hys_stack.specs.Reading.{or_else, unless, isnt_greater, is_equal, is_of_kind, is_start, weight_in, column_name, column_weight, output_weight, outside_fault, state_names, named_fault, unnamed_fault, start_fault, root_fault, front_fault, back_fault, limit_fault, count_fault, size_fault, value_fault, fields_fault, request_fault, request_in, start_in, is_counted, is_small, if_given, step_fault}
+use Rattle.hys_stack.specs.Requests.{state_columns, IsStart, AreStarts, AreWeights, IsRequestOf, most_steps, most_nodes, most_stacked, most_work}
+use Rattle.hys_stack.specs.Reading.{or_else, unless, isnt_greater, is_equal, is_of_kind, is_start, weight_in, column_name, column_weight, output_weight, outside_fault, state_names, start_fault, back_fault, limit_fault, count_fault, size_fault, value_fault, fields_fault, request_fault, request_in, start_in, is_counted}
 use Rattle.hys_stack.proofs.Problems.{states_counted}
 
 -- ---- nothing is wrong in either part

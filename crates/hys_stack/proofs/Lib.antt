@@ -14,3 +14,4 @@ pub mod Judging
 pub mod Lawful
 pub mod Outcomes
 pub mod OneAnswer
+pub mod Sampled

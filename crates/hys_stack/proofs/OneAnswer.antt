@@ -1,5 +1,5 @@
 -- A text has one answer: the request that it stands for, or the one cause to refuse it.
-use Rattle.std.proofs.Common.{◌≡◌, ℕ, ◌<◌, ◌≤◌, List, Option, Some, None, length, refl, sym, ◌∙◌, ap, arith}
+use Rattle.std.proofs.Common.{◌≡◌, ℕ, List, Some, None, sym, ◌∙◌, ap, arith}
 use Rattle.serde_json.specs.Data.{Data}
 use Rattle.hys_sys.specs.declared.system.System.{System}
 use Rattle.hys_stack.specs.declared.request.Request.{Request}

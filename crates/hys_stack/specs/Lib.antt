@@ -7,3 +7,4 @@ pub mod Reading
 pub mod Texts
 pub mod Worked
 pub mod Laws
+pub mod Sample

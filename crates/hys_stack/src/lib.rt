@@ -13,6 +13,8 @@ mod request;
 mod rows;
 mod scalars;
 mod stacker;
+#[cfg(test)]
+mod tests;
 
 pub use fault::{RequestFault, StackFault};
 pub use fields::{read_final, read_start, read_step};

@@ -1,6 +1,6 @@
 use Rattle.std.proofs.Common.{◌≤◌, length, rules}
 use Rattle.serde_json.specs.View.{view}
-use Rattle.hys_stack.specs.Texts.{most_bytes, IsValueOf}
+use Rattle.hys_stack.specs.Texts.{most_bytes}
 use Rattle.hys_stack.proofs.Outcomes.{bytes_refused, text_refused, value_read}
 use Rattle.hys_stack.proofs.reader.read_request.Goals as goal
 
