@@ -11,7 +11,6 @@ use Rattle.hys_number.specs.Number.{Number}
 use Rattle.hys_relax.specs.declared.fixing.Fixing.{Fixing}
 use Rattle.hys_search.proofs.Changes.{node_cases}
 use Rattle.hys_search.proofs.Paths.{path-parent, path-root}
-use Rattle.hys_search.proofs.Walk.{walked}
 use Rattle.hys_search.specs.Core.{Core, Holds}
 use Rattle.hys_search.specs.Nodes.{AreParents, Shape, first_child, grow, labels, node_at, path, shape, shape_at}
 use Rattle.hys_search.specs.Places.{IsLesser, IsLower, IsLowest, Visit, goal_by, is_cost, place_at, place_of, visit_at, walk}

@@ -1,7 +1,7 @@
 -- What holds of a search holds after each step.
-use Rattle.std.proofs.Common.{◌≡◌, ◌≢◌, ℕ, zero, suc, ◌+◌, ◌<◌, ◌≤◌, Bool, true, false, List, [], ◌∷◌, ◌++◌, length, get_or, set, map, refl, sym, ◌∙◌, ap, ap₂, subst, arith, ◌⊎◌, inl, inr, Option, Some, None, ◌==◌, if◌then◌else◌, IsTrue, length-append, append_assoc}
+use Rattle.std.proofs.Common.{◌≡◌, ◌≢◌, ℕ, zero, suc, ◌+◌, ◌<◌, ◌≤◌, Bool, true, false, List, [], ◌∷◌, ◌++◌, length, get_or, set, map, refl, sym, ◌∙◌, ap, ap₂, subst, arith, ◌⊎◌, inl, inr, Option, Some, None, ◌==◌, if◌then◌else◌, length-append, append_assoc}
 use Rattle.std.specs.List.{remove}
-use Rattle.std.proofs.lemmas.List.{get_or_append_left, get_or_at, length-set, get_or-set_same, get_or-set_other, take-append-le, map-append, append-nil}
+use Rattle.std.proofs.lemmas.List.{get_or_append_left, get_or_at, length-set, get_or-set_same, get_or-set_other, take-append-le}
 use Rattle.std.proofs.lemmas.List.Edits.{length-remove}
 use Rattle.hys_relax.proofs.Children.{node_child}
 use Rattle.hys_search.specs.declared.nodes.Standing.TheVariants.{Waits, Inner, Never, Closed, Kept}
@@ -15,7 +15,6 @@ use Rattle.hys_relax.specs.declared.range.RangeAt.{RangeAt}
 use Rattle.hys_search.proofs.Paths.{path-append, path-parent, path-set}
 use Rattle.hys_search.proofs.Queue.{IsPicked, map-remove, map-waits, picked, waits-append}
 use Rattle.hys_search.proofs.Shapes.{IsBranched, once_branched, once_same, other_test, same_test}
-use Rattle.hys_search.proofs.Walk.{entry_is}
 use Rattle.hys_search.specs.Branching.{IsJustified, IsUnfit, bound_at}
 use Rattle.hys_search.specs.Core.{Core, Holds, IsLeaf, LastingCertificates, branched, child, child_entry, children, entry, picked_of, settled, with_standing}
 use Rattle.hys_search.specs.Nodes.{IsRising, child_at, first_child, no_node, node_at, path, waits, waits_below}

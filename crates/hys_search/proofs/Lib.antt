@@ -5,7 +5,8 @@
 -- number of nodes. Paths are a left fold over the list. Steps are functions on the plain record `Core`, and the code
 -- says only that its table is one of them. Certificates and faults stand in lists that only grow, and nodes hold places
 -- in them. A tableau is kept by what it is at its node, and an expansion speaks of what was kept after it alone
--- (`warm_expanded`).
+-- (`warm_expanded`). That the lower bound doesn't fall needs no tree: leaves that stay keep their certificates, and by
+-- weak duality no relaxed point costs less than the bound that was kept at its node (`over_kept`, `Rising`).
 
 pub mod Conclusions
 pub mod Outcomes
@@ -21,3 +22,4 @@ pub mod Certified
 pub mod Changes
 pub mod Warming
 pub mod Among
+pub mod Rising

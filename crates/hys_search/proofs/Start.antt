@@ -1,6 +1,5 @@
 -- What holds before the first step.
 use Rattle.std.proofs.Common.{◌≡◌, ℕ, ◌<◌, ◌≤◌, List, [], ◌∷◌, length, refl, sym, ap, subst, arith, None}
-use Rattle.hys_number.specs.Ops.{◌≤ₙ◌}
 use Rattle.hys_number.proofs.Order.{le_refl'}
 use Rattle.hys_search.specs.declared.nodes.Standing.TheVariants.{Waits}
 use Rattle.hys_dual.specs.Relaxing.{IsWarm}

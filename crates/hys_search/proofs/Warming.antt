@@ -1,5 +1,5 @@
 -- Another tableau is kept.
-use Rattle.std.proofs.Common.{◌≡◌, ℕ, ◌<◌, ◌≤◌, List, [], ◌∷◌, ◌++◌, length, take, length-append, sym, ◌∙◌, ap, subst, arith, inl, inr}
+use Rattle.std.proofs.Common.{◌≡◌, ℕ, ◌<◌, List, [], ◌∷◌, ◌++◌, length, take, length-append, sym, ◌∙◌, ap, subst, arith, inl, inr}
 use Rattle.std.proofs.lemmas.List.{take-append-le, take_all}
 use Rattle.hys_dual.proofs.Lawful.{warm_below}
 use Rattle.hys_search.specs.declared.expand.Expanded.TheVariants.{Never, Closed, Found, Branched, Kept}
@@ -50,6 +50,7 @@ again C w i which D Found h = let f = h.1 in (
     beats = f.beats;
     closed = f.closed;
     bound = f.bound;
+    risen = f.risen;
     reached = record { node = f.reached.node; ruled = f.reached.ruled };
     point = f.point;
   },
@@ -60,11 +61,13 @@ again C w i which D Branched h = let f = h.1 in (
     inner = f.inner;
     free = f.free;
     why = f.why;
+    risen = f.risen;
+    heirs = record { first = f.heirs.first; second = f.heirs.second };
     found = f.found;
     reached = record { node = f.reached.node; ruled = f.reached.ruled };
   },
 )
-again C w i which D Kept h = let f = h.1 in (h.0, record { kept = f.kept; fixed = f.fixed; unfit = f.unfit; found = f.found })
+again C w i which D Kept h = let f = h.1 in (h.0, record { kept = f.kept; fixed = f.fixed; unfit = f.unfit; risen = f.risen; found = f.found })
 
 pub warm_expanded : (C : Core) (w : Warm) (i which : ℕ) (D : Core) (e : Expanded) → IsExpanded (with_warm C w i) which D e → IsExpanded C which D e
 warm_expanded C w i which D e h = record {
@@ -73,6 +76,8 @@ warm_expanded C w i which D e h = record {
   limit = h.limit;
   counted = h.counted;
   others = h.others;
+  lasting = h.lasting;
+  grown = h.grown;
   answered = again C w i which D e h.answered;
 }
 

@@ -2,6 +2,7 @@
 use Rattle.std.specs.Prelude.{◌≡◌, ℕ, suc, ◌+◌, ◌*◌, ◌<◌, ◌≤◌, Bool, true, false, List, [], ◌∷◌, ◌++◌, length, get_or, set, map, Option, Some, None, ◌⊎◌, vec_len, vec_capacity}
 use Rattle.std.specs.List.{remove}
 use Rattle.hys_number.specs.Number.{Number}
+use Rattle.hys_number.specs.Ops.{◌<ₙ◌}
 use Rattle.hys_lin.specs.Problem.{IsProblem}
 use Rattle.hys_lin.specs.declared.problem.Problem.{Problem}
 use Rattle.hys_relax.specs.Node.{IsNode}
@@ -143,12 +144,12 @@ LastingCertificates cs ds =
 abbrev pub with_certificate : List Certificate → Multipliers → ℕ → Number → List Certificate
 with_certificate cs m depth bound = cs ++ (record { multipliers = m; depth = depth; bound = bound } ∷ [])
 
--- the place of multipliers with a known bound, or the one held before
+-- the place of multipliers with a known bound that is above the one held before, or the place held before
 abbrev pub IsHeldBetter : List Certificate → ℕ → Multipliers → ℕ → Option Number → List Certificate → ℕ → Type 0
 IsHeldBetter cs held m depth None ds h = (ds ≡ cs) × (h ≡ held)
 IsHeldBetter cs held m depth (Some z) ds h =
     ((ds ≡ cs) × (h ≡ held))
-    ⊎ ((ds ≡ with_certificate cs m depth z) × (h ≡ length cs))
+    ⊎ ((ds ≡ with_certificate cs m depth z) × (h ≡ length cs) × ((certificate_at cs held).bound <ₙ z))
 
 -- ---- before the first step: the root waits with the plain bound
 abbrev pub start : Problem → ℕ → Warm → Core

@@ -6,7 +6,6 @@ use Rattle.hys_lin.specs.declared.problem.Problem.{Problem}
 use Rattle.hys_relax.specs.Bound.{plain_bound}
 use Rattle.hys_relax.specs.Laws.{child}
 use Rattle.hys_relax.specs.declared.fixing.Fixing.{Fixing}
-use Rattle.hys_relax.specs.declared.range.RangeAt.{RangeAt}
 use Rattle.hys_tree.specs.Certificate.{cost, never, fork, preorder}
 use Rattle.hys_tree.specs.Certificate.{Certificate as Tree}
 use Rattle.hys_tree.specs.Shows.{Goal, at_least, none, Shows}

@@ -2,7 +2,7 @@ ghost use Rattle.std.specs.Prelude.{◌≡◌, ◌<◌, ◌≤◌, Some, None, [
 ghost use Rattle.hys_lin.specs.Problem.{IsProblem};
 ghost use Rattle.hys_relax.specs.BoundSum.{BoundFits};
 ghost use Rattle.hys_search.specs.Core.{Holds, NoneKept, IsFresh};
-ghost use Rattle.hys_search.specs.Answers.{IsExpanded, PathAfter};
+ghost use Rattle.hys_search.specs.Answers.{IsExpanded, KeepsLower, PathAfter};
 ghost use Rattle.hys_search.specs.Places.{IsLower, NotBelowPlain, ShowsLower, IsTreeOf, IsKeptCause};
 
 use crate::expand::{Expanded, expand};
@@ -111,12 +111,13 @@ impl Search {
         self.table.warm.path()
     }
 
-    /// Works on the node at place `which` of those that wait.
+    /// Works on the node at place `which` of those that wait. The lower bound doesn't fall.
     pub fn expand(&mut self, alloc: Global, which: usize) -> Result<Expanded, AllocError>
         requires within { which < length self.old.waiting }
         requires left { self.old.expanded < self.old.limit }
         ensures memory { OnErr result (self.new ≡ self.old) }
         ensures expanded { IfOk result (λ e. IsExpanded self.old which self.new e) }
+        ensures lower { IfOk result (λ e. KeepsLower self.old self.new) }
         ensures path { IfOk result (λ e. PathAfter self.old which self.new e) }
     {
         expand(&mut self.table, alloc, which)

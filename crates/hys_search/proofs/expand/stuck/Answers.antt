@@ -58,7 +58,7 @@ returns-in-Some-clause-expanded c =
     subst (λ D. IsExpanded C c.args.which D branched_it) (sym c.branch-table.ensures)
     (branched_step C ds c.args.which c.hold_better-held.result c.in-Some.column c.requires.holds k.1 c.requires.within c.requires.left k.0
     (subst (λ (fs : List Fixing). InnerHolds C.problem fs c.in-Some.column) c.requires.fixings c.in-Some.ensures)
-    (inl (c.args.at, c.requires.stuck.unfit)) c.requires.warm)
+    (inl (c.args.at, c.requires.stuck.unfit)) c.requires.warm k.2)
 
 pub returns-in-None-clause-expanded : goal.returns-in-None-clause-expanded
 returns-in-None-clause-expanded c =
@@ -71,7 +71,7 @@ returns-in-None-clause-expanded c =
     subst (λ D. IsExpanded C c.args.which D kept) (sym (c.settle.ensures ∙ a ∙ b))
     (kept_step C ds c.args.at c.args.which c.hold_better-held.result c.requires.holds k.1 c.requires.within c.requires.left k.0
     (subst (λ (fs : List Fixing). AllFixed C.problem fs) c.requires.fixings c.in-None.ensures)
-    c.requires.stuck.unfit)
+    c.requires.stuck.unfit k.2)
 
 pub returns-in-Some-clause-warm : goal.returns-in-Some-clause-warm
 returns-in-Some-clause-warm c = ap (λ (D : Core). D.warm) c.branch-table.ensures ∙ branched_warm _ _ _ _
