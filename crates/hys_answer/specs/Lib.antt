@@ -1,1 +1,5 @@
 pub mod Shown
+pub mod Fitting
+pub mod Reading
+pub mod Texts
+pub mod Laws

@@ -7,5 +7,10 @@ pub mod Stages
 pub mod Asking
 pub mod Compiling
 pub mod Migrating
+pub mod Simulating
+pub mod Accepting
+pub mod Planning
+pub mod Checking
+pub mod Demonstrating
 pub mod Consequences
 pub mod Tolerances

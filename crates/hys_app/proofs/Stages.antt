@@ -110,3 +110,20 @@ stage_end {T} Ends Is r r' s o e h = subst (λ (x : Stage T). IsStage Ends Is r 
 
 pub stage_next : {T : Type 0} (Ends : Outcome → Type 0) (Is : T → Type 0) (r r' : ℕ) (s : Stage T) (x : T) → s ≡ Next x → IsStage Ends Is r r' s → Is x × (r' ≡ r)
 stage_next {T} Ends Is r r' s x e h = subst (λ (y : Stage T). IsStage Ends Is r r' y) e h
+
+-- ---- a command's stage, and what follows it
+pub ended_by : {T : Type 0} (Ends : Outcome → Type 0) (Is : T → Type 0) (Follows : T → Outcome → Type 0) (s : Stage T) (o : Outcome) (r r' : ℕ) → s ≡ End o →
+    IsStage Ends Is r r' s → IsReached (After Ends Is Follows) o r r'
+ended_by {T} Ends Is Follows s o r r' e h = after_end Ends Is Follows o r r' (stage_end Ends Is r r' s o e h)
+
+-- what follows has its own reads
+pub gone_on : {T : Type 0} (Ends : Outcome → Type 0) (Is : T → Type 0) (Follows : T → Outcome → Type 0) (s : Stage T) (x : T) (answer : Result Outcome AllocError) (r m r' : ℕ) → s ≡ Next x →
+    IsStage Ends Is r m s → IfOk answer (λ o. IsReached (Follows x) o m r') → IfOk answer (λ o. IsReached (After Ends Is Follows) o r r')
+gone_on {T} Ends Is Follows s x (Ok o) r m r' e h k =
+    let n = stage_next Ends Is r m s x e h in after_next Ends Is Follows x o r m r' n.0 n.1 k
+gone_on {T} Ends Is Follows s x (Err a) r m r' e h k = tt
+
+-- an outcome that follows without reads
+pub calm_ok : (L : Outcome → Type 0) (answer : Result Outcome AllocError) (r : ℕ) → ((o : Outcome) → L o → is_calm o.status ≡ true) → IfOk answer L → IfOk answer (λ o. IsReached L o r r)
+calm_ok L (Ok o) r calm h = calm_reached L o r r (calm o h) h refl
+calm_ok L (Err a) r calm h = tt

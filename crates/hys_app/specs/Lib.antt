@@ -5,4 +5,8 @@ pub mod Ends
 pub mod Stages
 pub mod Compiling
 pub mod Migrating
+pub mod Simulating
+pub mod Planning
+pub mod Checking
+pub mod Demonstrating
 pub mod Commands

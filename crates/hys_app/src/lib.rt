@@ -1,7 +1,11 @@
 //! What the program does with its words, over files and a sink.
 #![tactic(auto)]
 
+mod certificate;
+mod check;
+mod check_lines;
 mod compile;
+mod demo;
 mod file_lines;
 mod finish;
 pub mod laws;
@@ -10,11 +14,15 @@ mod matrices;
 mod migrate;
 mod number;
 mod outcome;
+mod plan;
+mod plan_lines;
+mod request;
+mod run_lines;
+mod simulate;
 mod source;
 mod stage;
 mod status;
-#[cfg(test)]
-mod tests;
+mod tables;
 mod top;
 mod words;
 

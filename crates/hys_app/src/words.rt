@@ -1,14 +1,15 @@
-ghost use Rattle.std.specs.Prelude.{◌≡◌, codes, map, string_bytes, option_map, bytes_eq, take, drop, Some, None, if◌then◌else◌, IfSome};
+ghost use Rattle.std.specs.Prelude.{◌≡◌, ◌≤◌, codes, map, string_bytes, option_map, bytes_eq, take, drop, Some, None, if◌then◌else◌, IfSome};
 ghost use Rattle.hys_number.specs.Ops.{◌<ₙ◌, whole};
 ghost use Rattle.std.specs.Ordering.{is_lt};
 ghost use Rattle.hys_frac.specs.Compare.{number_cmp};
-ghost use Rattle.hys_app.specs.Words.{compile, migrate, compile_form as compiling, migrate_form as migrating, tolerance_of, usual_tolerance as usual};
+ghost use Rattle.hys_app.specs.Words.{check, compile, demo, migrate, plan, sim, tanks_of, tolerance_of, usual_tolerance as usual};
+ghost use Rattle.hys_app.specs.Words.{check_form as checking, compile_form as compiling, demo_form as demonstrating, migrate_form as migrating, plan_form as planning, sim_form as simulating};
 
 use hys_frac::Frac;
 
 // The tolerance of guards without one of their own, where the words have none.
 #[tactic(auto, using(crate::proofs::Tolerances::usual_fits, crate::proofs::Tolerances::usual_above))]
-fn usual_tolerance() -> Frac
+pub fn usual_tolerance() -> Frac
     ensures value { result ≡ usual }
     ensures above { whole 0 <ₙ result }
 {
@@ -75,6 +76,149 @@ pub fn compile_form(words: &[String]) -> Option<(&str, &str, Frac)>
                     Some(tolerance) => Some((source.as_str(), target.as_str(), tolerance)),
                     None => None,
                 }
+            } else {
+                None
+            }
+        }
+        _ => None,
+    }
+}
+
+// The source, the tables, the target and the tolerance of `sim SRC START INPUTS OUT` and of
+// `sim SRC START INPUTS OUT eps=F`.
+pub fn sim_form(words: &[String]) -> Option<(&str, &str, &str, &str, Frac)>
+    ensures form { option_map (λ p. sim p.0.now p.1.now p.2.now p.3.now p.4) result ≡
+        simulating (map string_bytes words.now) }
+    ensures above { IfSome result (λ p. whole 0 <ₙ p.4) }
+{
+    match words {
+        [command, source, start, inputs, target] => {
+            if command.as_str() == "sim" {
+                Some((
+                    source.as_str(),
+                    start.as_str(),
+                    inputs.as_str(),
+                    target.as_str(),
+                    usual_tolerance(),
+                ))
+            } else {
+                None
+            }
+        }
+        [command, source, start, inputs, target, word] => {
+            if command.as_str() == "sim" {
+                match read_tolerance(word.as_str()) {
+                    Some(tolerance) => Some((
+                        source.as_str(),
+                        start.as_str(),
+                        inputs.as_str(),
+                        target.as_str(),
+                        tolerance,
+                    )),
+                    None => None,
+                }
+            } else {
+                None
+            }
+        }
+        _ => None,
+    }
+}
+
+// The source, the request, the target and the tolerance of `plan SRC REQ ANS` and of
+// `plan SRC REQ ANS eps=F`.
+pub fn plan_form(words: &[String]) -> Option<(&str, &str, &str, Frac)>
+    ensures form { option_map (λ p. plan p.0.now p.1.now p.2.now p.3) result ≡
+        planning (map string_bytes words.now) }
+    ensures above { IfSome result (λ p. whole 0 <ₙ p.3) }
+{
+    match words {
+        [command, source, request, target] => {
+            if command.as_str() == "plan" {
+                Some((
+                    source.as_str(),
+                    request.as_str(),
+                    target.as_str(),
+                    usual_tolerance(),
+                ))
+            } else {
+                None
+            }
+        }
+        [command, source, request, target, word] => {
+            if command.as_str() == "plan" {
+                match read_tolerance(word.as_str()) {
+                    Some(tolerance) => Some((
+                        source.as_str(),
+                        request.as_str(),
+                        target.as_str(),
+                        tolerance,
+                    )),
+                    None => None,
+                }
+            } else {
+                None
+            }
+        }
+        _ => None,
+    }
+}
+
+// The matrix text, the request and the answer of `check MLD REQ ANS`.
+pub fn check_form(words: &[String]) -> Option<(&str, &str, &str)>
+    ensures form { option_map (λ p. check p.0.now p.1.now p.2.now) result ≡ checking (map string_bytes words.now) }
+{
+    match words {
+        [command, matrices, request, answer] => {
+            if command.as_str() == "check" {
+                Some((matrices.as_str(), request.as_str(), answer.as_str()))
+            } else {
+                None
+            }
+        }
+        _ => None,
+    }
+}
+
+// A number of tanks, from 1 to 20.
+fn read_tanks(word: &str) -> Option<u32>
+    ensures value { result ≡ tanks_of word.now }
+    ensures few { IfSome result (λ k. (1 ≤ k) × (k ≤ 20)) }
+{
+    match word {
+        "1" => Some(1),
+        "2" => Some(2),
+        "3" => Some(3),
+        "4" => Some(4),
+        "5" => Some(5),
+        "6" => Some(6),
+        "7" => Some(7),
+        "8" => Some(8),
+        "9" => Some(9),
+        "10" => Some(10),
+        "11" => Some(11),
+        "12" => Some(12),
+        "13" => Some(13),
+        "14" => Some(14),
+        "15" => Some(15),
+        "16" => Some(16),
+        "17" => Some(17),
+        "18" => Some(18),
+        "19" => Some(19),
+        "20" => Some(20),
+        _ => None,
+    }
+}
+
+// The number of tanks of `demo K`.
+pub fn demo_form(words: &[String]) -> Option<u32>
+    ensures form { option_map (λ k. demo k) result ≡ demonstrating (map string_bytes words.now) }
+    ensures few { IfSome result (λ k. (1 ≤ k) × (k ≤ 20)) }
+{
+    match words {
+        [command, word] => {
+            if command.as_str() == "demo" {
+                read_tanks(word.as_str())
             } else {
                 None
             }

@@ -1,4 +1,4 @@
-use crate::{Status, run};
+use hys_app::{Status, run};
 use hys_io::{MemFiles, MemSink};
 use std::alloc::{AllocError, Global};
 use std::test::Fail;
