@@ -7,11 +7,20 @@ import shutil
 import subprocess
 import sys
 import tempfile
+import time
 
 BENCH = os.path.dirname(os.path.abspath(__file__))
 TOP = os.path.dirname(BENCH)
 BUILT = os.path.join(TOP, ".build", "bench")
 PARTS = ("src", "specs", "proofs")
+REGISTRY = "/usr/share/cargo/registry"  # where Debian puts the crates that it has
+
+CONFIG = f"""[source.crates-io]
+replace-with = "debian"
+
+[source.debian]
+directory = "{REGISTRY}"
+"""
 
 
 def tool(name, *folders):
@@ -20,6 +29,11 @@ def tool(name, *folders):
     if found is None:
         sys.exit(" ".join([f"bench: {name} is missing on PATH", *(f"and in {it}" for it in folders)]))
     return found
+
+
+def has_crate(name):
+    """Whether Debian's crate, whose folder begins with the name and a version, is installed."""
+    return os.path.isdir(REGISTRY) and any(it.startswith(name) for it in os.listdir(REGISTRY))
 
 
 def is_current(made, sources):
@@ -87,6 +101,18 @@ def best(command, runs=5):
             sys.exit(f"bench: {command[0]} ended with status {process.returncode}")
         times.append(usage.ru_utime + usage.ru_stime)
     return min(times), printed.strip()
+
+
+def peak(command):
+    """The most memory that the process of the command has, in bytes, as its last look at it says."""
+    process, most = subprocess.Popen(command, stdout=subprocess.DEVNULL), 0
+    while process.poll() is None:
+        with open(f"/proc/{process.pid}/status", encoding="ascii", errors="replace") as status:
+            for line in status:
+                if line.startswith("VmHWM:"):
+                    most = int(line.split()[1]) * 1024
+        time.sleep(0.0002)
+    return most
 
 
 def gaps(size):
