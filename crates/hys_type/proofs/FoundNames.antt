@@ -13,7 +13,7 @@ use Rattle.hys_lin.specs.Bits.{is_one}
 use Rattle.hys_type.specs.Nodes.{is_declared, may_stand, may_be_cast, name_checks, sort, operator_checks, node_checks}
 use Rattle.hys_type.specs.Sorts.{takes_unary}
 use Rattle.hys_type.specs.Faults.{Check, check, first_fault}
-use Rattle.hys_type.specs.Translation.{else_form, difference_form, name_formula, place_in}
+use Rattle.hys_type.specs.Translation.{difference_form, name_formula, place_in}
 use Rattle.hys_type.specs.declared.fault.TypeFault.TheVariants as fault
 use Rattle.hys_type.proofs.Wholes.{front_passes, back_passes, passed}
 use Rattle.hys_type.proofs.Fronts.{look_front, place_front}
@@ -96,11 +96,3 @@ wider_guard ns ms (tree.Binary op a b p) h = ap₂ (guard_between op) (wider_for
 
 pub wider_difference : (ns ms : List Name) (a b : Tree) → Finds ns a → Finds ns b → difference_form (ns ++ ms) a b ≡ difference_form ns a b
 wider_difference ns ms a b h k = ap₂ (combined binary.Sub) (wider_form ns ms a h) (wider_form ns ms b k)
-
-abbrev pub FindsAny : List Name → Option Tree → Type 0
-FindsAny ns (Some e) = Finds ns e
-FindsAny ns None = Unit {0}
-
-pub wider_else : (ns ms : List Name) (o : Option Tree) → FindsAny ns o → else_form (ns ++ ms) o ≡ else_form ns o
-wider_else ns ms (Some e) h = wider_form ns ms e h
-wider_else ns ms None h = refl

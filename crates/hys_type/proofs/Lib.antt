@@ -27,6 +27,7 @@ pub mod Knowing
 pub mod Ends
 pub mod Zips
 pub mod Operands
+pub mod Places
 pub mod Operators
 pub mod Rights
 pub mod Items
@@ -52,7 +53,6 @@ pub mod Guards
 pub mod Guarding
 pub mod Bodies
 pub mod Weights
-pub mod Beginnings
 pub mod Additions
 pub mod Numbering
 pub mod ItemNumbers

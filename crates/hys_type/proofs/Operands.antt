@@ -1,7 +1,5 @@
 -- Nodes and their operands.
-use Rattle.std.proofs.Common.{◌≡◌, ℕ, ◌+◌, ◌<◌, List, [], ◌∷◌, ◌++◌, Some, None, Bool, true, false, map, take, length, get_or, refl, sym, ◌∙◌, ap, ◌≢◌, suc, zero, cond, arith, add-one}
-use Rattle.std.specs.Str.{bytes_eq}
-use Rattle.hys_meaning.specs.Names.{look}
+use Rattle.std.proofs.Common.{◌≡◌, ℕ, ◌+◌, ◌<◌, List, [], ◌∷◌, ◌++◌, Some, None, Bool, true, false, map, take, length, get_or, refl, sym, ◌∙◌, ap, ◌≢◌, cond}
 use Rattle.hys_number.specs.Ops.{fits, whole}
 use Rattle.hys_lin.specs.declared.lost.Lost.{Lost}
 use Rattle.hys_number.specs.Number.{Number, make}
@@ -14,37 +12,15 @@ use Rattle.hys_lin.specs.Operations.{first_lost, outcome}
 use Rattle.hys_ast.specs.declared.place.Place.{Place}
 use Rattle.hys_type.specs.Faults.{first_fault, in_range}
 use Rattle.hys_type.specs.declared.fault.TypeFault.TheVariants as fault
-use Rattle.hys_type.specs.Operands.{seen}
-use Rattle.hys_type.specs.declared.scope.Declared.{Declared}
 use Rattle.hys_type.proofs.Walks.{longer}
-use Rattle.std.proofs.lemmas.List.{map_push, take_more, length-map}
+use Rattle.std.proofs.lemmas.List.{map_push, length-map}
 
--- ---- names
-pub seen_here : (ds : List Declared) (d : Declared) (rest : List Declared) (n : List ℕ) → ds ≡ d ∷ rest → bytes_eq d.text n ≡ true → look (map seen ds) n ≡ Some (seen d)
-seen_here ds d rest n e h = rw e (rw h refl)
-
-pub seen_behind : (ds : List Declared) (d : Declared) (rest : List Declared) (n : List ℕ) → ds ≡ d ∷ rest → bytes_eq d.text n ≡ false → look (map seen ds) n ≡ look (map seen rest) n
-seen_behind ds d rest n e h = rw e (rw h refl)
-
+-- ---- lists
 -- one more of a list that a loop makes
 pub made_more : {X D R : Type 0} (view : X → D) (f : D → R) (xs : List X) (i : ℕ) (x : X) (out more : List R) (r : R) → i < length xs → x ≡ get_or xs i x → out ≡ map f (map view (take i xs)) → r ≡ f (view x) →
     more ≡ out ++ r ∷ [] → more ≡ map f (map view (take (i + 1) xs))
 made_more view f xs i x out more r h e o w m =
     m ∙ ap (λ zs. zs ++ r ∷ []) o ∙ ap (λ z. map f (map view (take i xs)) ++ z ∷ []) w ∙ sym (map_push f (map view (take i xs)) (view x)) ∙ ap (map f) (sym (longer view xs i x h e))
-
-pub made_one : {X R : Type 0} (f : X → R) (xs : List X) (i : ℕ) (x : X) (out more : List R) (r : R) → i < length xs → x ≡ get_or xs i x → out ≡ map f (take i xs) → r ≡ f x → more ≡ out ++ r ∷ [] → more ≡ map f (take (i + 1) xs)
-made_one f xs i x out more r h e o w m = m ∙ ap (λ zs. zs ++ r ∷ []) o ∙ ap (λ z. map f (take i xs) ++ z ∷ []) (w ∙ ap f e) ∙ sym (ap (map f) (take_more xs i x h) ∙ map_push f (take i xs) (get_or xs i x))
-
-same_longer : {X D R : Type 0} (view : X → D) (k : R) (xs : List X) (i : ℕ) → i < length xs → map (λ (n : D). k) (map view (take (suc i) xs)) ≡ map (λ (n : D). k) (map view (take i xs)) ++ k ∷ []
-same_longer view k [] i h = absurd (below h)
-  where
-    below : i < 0 → ⊥
-    below h = omega (arith, h)
-same_longer view k (x ∷ xs) zero h = refl
-same_longer view k (x ∷ xs) (suc i) h = ap (λ ys. k ∷ ys) (same_longer view k xs i (omega (arith, h)))
-
-pub made_same : {X D R : Type 0} (view : X → D) (k : R) (xs : List X) (i : ℕ) (out more : List R) → i < length xs → out ≡ map (λ (n : D). k) (map view (take i xs)) → more ≡ out ++ k ∷ [] → more ≡ map (λ (n : D). k) (map view (take (i + 1) xs))
-made_same view k xs i out more h o m = m ∙ ap (λ zs. zs ++ k ∷ []) o ∙ sym (rw add-one (same_longer view k xs i h))
 
 -- ---- numbers that fit
 pub range_fits : (p : Place) (os : List Lost) → None ≡ first_lost os → None ≡ first_fault (in_range p os)

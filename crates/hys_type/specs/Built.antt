@@ -48,6 +48,10 @@ comparisons (tree.Unary op a p) = comparisons a
 comparisons (tree.Binary op a b p) =
     cond (is_inequality op) (tree.Binary op a b p ∷ []) (comparisons a ++ comparisons b)
 
+-- the formula of a name alone
+abbrev pub own_formula : List Name → List ℕ → FormulaTree
+own_formula ns n = name_formula ns n (look ns n)
+
 -- the formula of an expression whose first unnamed guard is the name at a place
 abbrev pub built : List Name → ℕ → Tree → FormulaTree
 built ns k (tree.Number text p) = constant false

@@ -4,6 +4,7 @@ use Rattle.std.specs.Prelude.{ℕ, List, [], ◌∷◌, ◌++◌, Option, Some, 
 use Rattle.std.specs.List.{list_any, AllByRecursion}
 use Rattle.std.specs.declared.cmp.Ordering.{Ordering}
 use Rattle.std.specs.declared.cmp.Ordering.TheVariants.{Less, Equal, Greater}
+use Rattle.hys_number.specs.Number.{Number}
 use Rattle.hys_number.specs.Ops.{whole}
 use Rattle.hys_frac.specs.Compare.{number_cmp}
 use Rattle.hys_ast.specs.declared.place.Place.{Place}
@@ -64,6 +65,10 @@ abbrev pub is_less : Ordering → Bool
 is_less Less = true
 is_less Equal = false
 is_less Greater = false
+
+-- a number above 0
+abbrev pub above_zero_checks : Number → Place → List Check
+above_zero_checks a p = check (is_less (number_cmp (whole 0) a)) (fault.Tolerance p a) ∷ []
 
 -- a tolerance is real and constant, and above 0
 abbrev pub tolerance_checks : List Known → Place → Tree → List Check
@@ -128,6 +133,10 @@ checks s =
 -- the fault of a source, where it has one
 abbrev pub fault_of : Source → Option TypeFault
 fault_of s = first_fault (checks s)
+
+-- items, and then the names that no item defines
+abbrev pub use_checks : List Decl → List Item → List Check
+use_checks ds is = walk (item_checks (scope_by ds)) [] is ++ walk (λ before d. missing_checks is d) [] ds
 
 -- ---- literals
 abbrev pub HaveShapeLiterals : Shape → Type 0

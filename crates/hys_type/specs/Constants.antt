@@ -153,6 +153,16 @@ abbrev pub constant_number : Constant → Number
 constant_number (constant.Real a) = a
 constant_number (constant.Bool b) = whole 0
 
+-- ---- operators between constants
+-- a sign before a constant
+abbrev pub sign_checks : UnaryOp → Constant → Place → List Check
+sign_checks op c p = check (takes_unary op (constant_sort c)) (fault.Kind p) ∷ []
+
+-- an operator between two constants
+abbrev pub pair_checks : BinaryOp → Constant → Constant → Place → List Check
+pair_checks op c d p =
+    operator_checks op (constant_sort c) (constant_sort d) (constant_number c) (constant_number d) p
+
 -- what a parameter of the kind is by its value
 abbrev pub of_kind : Kind → Number → Constant
 of_kind kind.Real a = constant.Real a

@@ -1,5 +1,5 @@
 -- The checks of declarations: each name once, values of parameters, and boxes.
-use Rattle.std.specs.Prelude.{ℕ, List, [], ◌∷◌, ◌++◌, Option, Some, None, Bool, true, false, not, map, cond, filter, nat_lt, length}
+use Rattle.std.specs.Prelude.{◌≡◌, ℕ, List, [], ◌∷◌, ◌++◌, Option, Some, None, Bool, true, false, not, map, cond, filter, nat_lt, length}
 use Rattle.std.specs.Str.{bytes_eq}
 use Rattle.std.specs.List.{list_any}
 use Rattle.std.specs.declared.cmp.Ordering.{Ordering}
@@ -18,7 +18,8 @@ use Rattle.hys_meaning.specs.Names.{is_parameter}
 use Rattle.hys_meaning.specs.Typed.{has_box}
 use Rattle.hys_type.specs.Sorts.{Sort, is_real, is_bool}
 use Rattle.hys_type.specs.Faults.{Check, check}
-use Rattle.hys_type.specs.Constants.{known_values, known_sort, constant_checks, HasLiterals}
+use Rattle.hys_type.specs.Constants.{known_values, known_sort, constant_sort, constant_checks, HasLiterals}
+use Rattle.hys_type.specs.declared.constant.Constant.{Constant}
 use Rattle.hys_type.specs.declared.constant.Known.{Known}
 use Rattle.hys_type.specs.declared.fault.TypeFault.TheVariants as fault
 
@@ -45,6 +46,10 @@ place_of (tree.Binary op a b p) = p
 abbrev pub is_of_kind : Kind → Sort → Bool
 is_of_kind kind.Real s = is_real s
 is_of_kind kind.Bool s = is_bool s
+
+-- a constant of the kind stands at the place
+abbrev pub kind_checks : Kind → Constant → Place → List Check
+kind_checks k c p = check (is_of_kind k (constant_sort c)) (fault.Kind p) ∷ []
 
 -- a constant expression of the kind
 abbrev pub constant_of_kind : Kind → List Known → Tree → List Check
@@ -108,6 +113,10 @@ bounds_checks ks low high p =
     constant_of_kind kind.Real ks low
     ++ (constant_of_kind kind.Real ks high
     ++ ends_checks (value (known_values ks) low) (value (known_values ks) high) p)
+
+-- the ends are the values of the two expressions
+abbrev pub AreEnds : List Known → Tree → Tree → Interval → Type 0
+AreEnds ks low high i = (i.low ≡ value (known_values ks) low) × (i.high ≡ value (known_values ks) high)
 
 abbrev pub given_bounds_checks : List Known → Option Tree → Option Tree → Place → List Check
 given_bounds_checks ks (Some low) (Some high) p = bounds_checks ks low high p

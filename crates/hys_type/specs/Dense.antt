@@ -6,6 +6,7 @@ use Rattle.hys_lin.specs.declared.lost.Op.{Op}
 use Rattle.hys_lin.specs.Operations.{result_of}
 use Rattle.hys_meaning.specs.Names.{Name}
 use Rattle.hys_meaning.specs.Forms.{Form}
+use Rattle.hys_meaning.specs.Folding.{each, matched}
 use Rattle.hys_type.specs.declared.dense.Dense.{Dense}
 
 abbrev pub between : Op → Number → Number → Lost
@@ -31,3 +32,18 @@ spread f = record { factors = map (λ a. f.constant) f.factors; constant = f.con
 pub record IsDense (ns : List Name) (f : Form) (d : Dense) : Type 0 where
   pub factors : d.factors ≡ map (λ n. f.factor n.text) ns
   pub constant : d.constant ≡ f.constant
+
+-- ---- operations of two dense forms
+-- are those of the forms that they stand for, name by name
+abbrev pub FoldMatched : List Name → Op → Form → Form → Type 0
+FoldMatched ns o f g = (d e : Dense) → IsDense ns f d → IsDense ns g e → folded_by o d e ≡ matched (between o) ns f g
+
+-- the constant of the first one stands at each name
+abbrev pub FoldLeft : List Name → Op → Form → Form → Type 0
+FoldLeft ns o f g = (d e : Dense) → IsDense ns f d → IsDense ns g e →
+    folded_by o (spread d) e ≡ each (between o) ns (λ n. f.constant) g.factor f.constant g.constant
+
+-- the constant of the second one stands at each name
+abbrev pub FoldRight : List Name → Op → Form → Form → Type 0
+FoldRight ns o f g = (d e : Dense) → IsDense ns f d → IsDense ns g e →
+    folded_by o d (spread e) ≡ each (between o) ns f.factor (λ n. g.constant) f.constant g.constant

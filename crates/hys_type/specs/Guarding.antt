@@ -1,5 +1,5 @@
 -- What is made of the unnamed guards of a source: their names, and their items.
-use Rattle.std.specs.Prelude.{ℕ, suc, List, [], ◌∷◌, Some}
+use Rattle.std.specs.Prelude.{ℕ, suc, ◌+◌, ◌-◌, List, [], ◌∷◌, ◌++◌, Some, length}
 use Rattle.hys_number.specs.Number.{Number}
 use Rattle.hys_number.specs.Ops.{whole}
 use Rattle.hys_ast.specs.declared.place.Place.{Place}
@@ -35,3 +35,11 @@ item_of_guard j tolerance g = record { name = Some j; place = g.place; body = me
 abbrev pub items_of_guards : ℕ → Number → List Guard → List ProgItem
 items_of_guards j tolerance [] = []
 items_of_guards j tolerance (g ∷ gs) = item_of_guard j tolerance g ∷ items_of_guards (suc j) tolerance gs
+
+-- names, of which so many are declared, and those of guards behind them
+abbrev pub put_guard_names : ℕ → List ProgName → List Guard → List ProgName
+put_guard_names declared ns gs = ns ++ names_of_guards (length ns - declared + 1) gs
+
+-- items, and those of guards whose names stand behind the names
+abbrev pub put_guard_items : List ProgName → Number → List ProgItem → List Guard → List ProgItem
+put_guard_items ns tolerance is gs = is ++ items_of_guards (length ns) tolerance gs

@@ -26,3 +26,5 @@ pub mod Written
 pub mod DeclarationKeeping
 pub mod Added
 pub mod Scopes
+pub mod Indexed
+pub mod CheckRules

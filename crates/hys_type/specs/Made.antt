@@ -36,3 +36,7 @@ pub record AreDeclaredFirst (w : Assignment) (ds : List Decl) (ns : List ProgNam
 -- the names are one by one those of the declarations of a source
 abbrev pub AreNamesOf : Source → List ProgName → Type 0
 AreNamesOf s ns = OneByOne (IsNameOf (parameters s.decls)) s.decls ns
+
+-- those of the declarations of a source come first
+abbrev pub AreNamesFirst : Source → List ProgName → Type 0
+AreNamesFirst s ns = AreDeclaredFirst (parameters s.decls) s.decls ns

@@ -1,5 +1,5 @@
 -- What the nodes of an item's expressions are folded to: dense forms, and the checks between them.
-use Rattle.std.specs.Prelude.{◌≡◌, List, [], ◌∷◌, ◌++◌, Bool, true, false, not, cond, map, length}
+use Rattle.std.specs.Prelude.{◌≡◌, ℕ, List, [], ◌∷◌, ◌++◌, Option, Bool, true, false, not, cond, map, length}
 use Rattle.std.specs.List.{list_all}
 use Rattle.hys_number.specs.Ops.{neg, whole}
 use Rattle.hys_lin.specs.declared.lost.Lost.{Lost}
@@ -10,8 +10,8 @@ use Rattle.hys_ast.specs.declared.tree.UnaryOp.TheVariants as unary
 use Rattle.hys_ast.specs.declared.tree.BinaryOp.{BinaryOp}
 use Rattle.hys_ast.specs.declared.tree.BinaryOp.TheVariants as binary
 use Rattle.hys_ast.specs.Tree.{Tree}
-use Rattle.hys_meaning.specs.Names.{Name}
-use Rattle.hys_meaning.specs.Forms.{form}
+use Rattle.hys_meaning.specs.Names.{Name, look, is_parameter}
+use Rattle.hys_meaning.specs.Forms.{Form, form, parameter_or}
 use Rattle.hys_meaning.specs.Folding.{is_zero}
 use Rattle.hys_type.specs.Sorts.{Sort, Real, Bool', Neither}
 use Rattle.hys_type.specs.Faults.{Check, check, in_range}
@@ -26,6 +26,14 @@ use Rattle.hys_type.specs.declared.node.Node.TheVariants as node
 -- a declared name without its box, which no expression asks for
 abbrev pub seen : Declared → Name
 seen d = record { text = d.text; section = d.section; kind = d.kind; low = whole 0; high = whole 0; value = d.value }
+
+-- the name with a text
+abbrev pub lookup : List Declared → List ℕ → Option Name
+lookup ds n = look (map seen ds) n
+
+-- the form of a declared name: that of its value where it is a parameter
+abbrev pub own_form : List ℕ → Declared → Form
+own_form n d = parameter_or n d.value (is_parameter d.section)
 
 -- ---- nodes
 abbrev pub node_sort : Node → Sort
@@ -89,6 +97,14 @@ multiplied false d e = folded_by operation.Mul d (spread e)
 abbrev pub product : Bool → Dense → Dense → Dense
 product true d e = folded_form operation.Mul (spread d) e
 product false d e = folded_form operation.Mul d (spread e)
+
+-- a product, of which one side is constant
+abbrev pub product_checks : Dense → Dense → Place → List Check
+product_checks d e p = linear binary.Mul d e p ++ in_range p (multiplied (has_none d) d e)
+
+-- a quotient, whose divisor is constant
+abbrev pub quotient_checks : Dense → Dense → Place → List Check
+quotient_checks d e p = linear binary.Div d e p ++ in_range p (folded_by operation.Div d (spread e))
 
 abbrev pub operations : BinaryOp → Dense → Dense → List Lost
 operations binary.Add d e = folded_by operation.Add d e

@@ -5,7 +5,7 @@
 --   AUTOMATA { s = ~d | b; } CONTINUOUS { x = v + (REAL d); } OUTPUT { y = x / p; o = x <= 5; }
 --   MUST { x == u + 1; v >= u; d <-> s; }
 -- Two comparisons have no name: that of the IF, and that of the second output.
-use Rattle.std.specs.Prelude.{ℕ, List, [], ◌∷◌, Some, None, Option, true, codes}
+use Rattle.std.specs.Prelude.{◌≡◌, ℕ, List, [], ◌∷◌, Some, None, Option, true, codes}
 use Rattle.hys_number.specs.Number.{Number}
 use Rattle.hys_number.specs.Ops.{whole, neg, ◌/ₙ◌}
 use Rattle.hys_lin.specs.declared.form.Affine.{Affine}
@@ -22,7 +22,7 @@ use Rattle.hys_ast.specs.Tree as tree
 use Rattle.hys_formula.specs.declared.formula.Connective.TheVariants as connective
 use Rattle.hys_formula.specs.declared.formula.Formula.{Formula}
 use Rattle.hys_formula.specs.declared.formula.Formula.TheVariants as formula
-use Rattle.hys_formula.specs.Formulas.{FormulaTree, constant, named, negated, joined}
+use Rattle.hys_formula.specs.Formulas.{FormulaTree, tree_of, constant, named, negated, joined}
 use Rattle.hys_prog.specs.declared.program.Role.{Role}
 use Rattle.hys_prog.specs.declared.program.Role.TheVariants as role
 use Rattle.hys_prog.specs.declared.program.Body.{Body}
@@ -31,6 +31,7 @@ use Rattle.hys_prog.specs.declared.program.Name.{Name}
 use Rattle.hys_prog.specs.declared.program.ProgItem.{ProgItem}
 use Rattle.hys_prog.specs.declared.program.Program.{Program}
 use Rattle.hys_type.specs.Examples.{spot, digits, name}
+use Rattle.hys_type.specs.SameMeaning.{Translates}
 
 -- ---- the source
 abbrev declared : Section → Kind → List ℕ → ℕ → Option Tree → Option Tree → Option Tree → Decl
@@ -180,3 +181,9 @@ rich_program tolerance when next demand = record {
       ∷ [];
   weight = 14;
 }
+
+-- the program is the translation where its three formulas have these trees
+abbrev pub TranslatesRich : Number → Formula → Formula → Formula → Type 0
+TranslatesRich tolerance when next demand =
+    tree_of when ≡ when_tree → tree_of next ≡ next_tree → tree_of demand ≡ demand_tree →
+    Translates tolerance rich (rich_program tolerance when next demand)

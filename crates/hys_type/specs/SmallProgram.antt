@@ -2,7 +2,7 @@
 --   STATE { REAL x [0, 10]; } PARAMETER { REAL p = 2; BOOL b = TRUE; } AUX { BOOL d; BOOL e; }
 --   LOGIC { d = x >= 1; e = b; } CONTINUOUS { x = p * x + 1; } MUST { x <= 3; d; }
 -- The comparison in LOGIC has no name, so the program has one name and one item more.
-use Rattle.std.specs.Prelude.{ℕ, List, [], ◌∷◌, Some, None, Option, true, codes}
+use Rattle.std.specs.Prelude.{◌≡◌, ◌↔◌, ℕ, List, [], ◌∷◌, Some, None, Option, true, codes}
 use Rattle.hys_number.specs.Number.{Number}
 use Rattle.hys_number.specs.Ops.{whole, neg}
 use Rattle.hys_lin.specs.declared.form.Affine.{Affine}
@@ -22,6 +22,7 @@ use Rattle.hys_prog.specs.declared.program.Name.{Name}
 use Rattle.hys_prog.specs.declared.program.ProgItem.{ProgItem}
 use Rattle.hys_prog.specs.declared.program.Program.{Program}
 use Rattle.hys_type.specs.Examples.{spot, digits, name, zero_at, ten_at, state}
+use Rattle.hys_type.specs.Translation.{IsTranslation}
 
 -- ---- the source
 abbrev declared : Section → Kind → List ℕ → ℕ → Option Tree → Decl
@@ -102,3 +103,8 @@ small_program tolerance factor = record {
       ∷ [];
   weight = 6;
 }
+
+-- the program is the translation just where its guard has the tolerance, and the factor is the parameter's value
+abbrev pub IsSmallJustWhere : Number → Number → Number → Type 0
+IsSmallJustWhere tolerance eps factor =
+    IsTranslation tolerance small (small_program eps factor) ↔ ((eps ≡ tolerance) × (factor ≡ whole 2))

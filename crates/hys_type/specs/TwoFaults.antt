@@ -8,6 +8,11 @@ use Rattle.hys_ast.specs.declared.tree.BinaryOp.TheVariants as binary
 use Rattle.hys_ast.specs.declared.tree.UnaryOp.TheVariants as unary
 use Rattle.hys_ast.specs.Tree.{Tree, Decl, Item, Source}
 use Rattle.hys_ast.specs.Tree as tree
+use Rattle.hys_number.specs.Ops.{whole, neg}
+use Rattle.hys_lin.specs.Operations.{minus}
+use Rattle.hys_meaning.specs.Values.{literal}
+use Rattle.hys_type.specs.declared.fault.TypeFault.{TypeFault}
+use Rattle.hys_type.specs.declared.fault.TypeFault.TheVariants as fault
 use Rattle.hys_type.specs.Examples.{spot, digits, name, zero_at, ten_at, state, next, source}
 
 -- the name x, and an operator between two expressions
@@ -97,6 +102,10 @@ abbrev pub guard_in_sum : Tree
 guard_in_sum = two binary.Add 6
     (two binary.Most 7 (two binary.Mul 8 (largest_at 9) (x_at 10)) (tree.Unary unary.Neg (x_at 12) (spot 11)))
     (digits (codes "1") 13)
+
+-- its fault: the largest number less -1 doesn't fit
+abbrev pub beyond_the_largest : TypeFault
+beyond_the_largest = fault.Range (spot 7) (minus (literal (codes "9223372036854775807")) (neg (whole 1)))
 
 -- x / (x - x)
 abbrev pub by_no_term : Tree

@@ -1,25 +1,21 @@
 //! The bodies of a program's items.
 
-ghost use Rattle.std.specs.Prelude.{◌≡◌, ◌+◌, ℕ, [], map, length, true, Some, IfOk};
+ghost use Rattle.std.specs.Prelude.{◌≡◌, map, true, Some, IfOk};
 ghost use Rattle.hys_ast.specs.Seen.{tree_of, maybe_tree_of, item_of};
-ghost use Rattle.hys_ast.specs.Tree as tree;
-ghost use Rattle.hys_meaning.specs.Bodies.{body};
-ghost use Rattle.hys_meaning.specs.Bodies as said;
 ghost use Rattle.hys_meaning.specs.Unfolded.{is_inequality};
 ghost use Rattle.hys_type.specs.Constants.{HasLiterals};
 ghost use Rattle.hys_type.specs.Declarations.{HaveLiterals};
 ghost use Rattle.hys_type.specs.Checks.{has_top, HasItemLiterals};
 ghost use Rattle.hys_type.specs.Operands.{seen};
 ghost use Rattle.hys_type.specs.Translation.{left_kind};
-ghost use Rattle.hys_type.specs.Built.{AreFollowed, body_comparisons, IsBuilt};
-ghost use Rattle.hys_type.specs.Scopes.{setting_in, shape_comparisons, IsShapeBuilt, IsGuardForm, IsElseForm};
+ghost use Rattle.hys_type.specs.Scopes.{IsGuardForm, IsElseForm, IsBodyIn, FollowItem, IsOutputIn, FollowOutput, IsDemandIn, FollowDemand, IsComparisonIn, IsPlainIn, FollowPlain, IsWideIn, HasNoGuard, IsChoiceIn, FollowChoice};
 
 use crate::built::{Guard, affine, difference, formula, guard_number};
 use crate::constant::Known;
 use crate::fault::TypeFault;
 use crate::kinds::place_of;
 use crate::right::{compares, is_inequality, read_tolerance};
-use crate::scope::{Declared, look};
+use crate::scope::{Scope, look};
 use hys_ast::{BinaryOp, Expr, Item, Kind, Section, Shape};
 use hys_base::{List, Text};
 use hys_frac::Frac;
@@ -28,7 +24,7 @@ use hys_prog::Body;
 use std::alloc::Global;
 
 // The guard number of a comparison that stands at the top.
-fn top_number(alloc: Global, scope: &[Declared], whole: &Expr) -> Result<Affine, TypeFault>
+fn top_number(alloc: Global, scope: &Scope, whole: &Expr) -> Result<Affine, TypeFault>
     requires { HasLiterals (tree_of whole.now) }
     ensures top { IfOk result (λ _. has_top is_inequality (tree_of whole.now) ≡ true) }
     ensures number { IfOk result (λ f. IsGuardForm (map seen scope.now) (tree_of whole.now) f) }
@@ -49,7 +45,7 @@ fn top_number(alloc: Global, scope: &[Declared], whole: &Expr) -> Result<Affine,
 }
 
 // The kind of the left name.
-fn left_kind(scope: &[Declared], left: &Option<Text>) -> Option<Kind>
+fn left_kind(scope: &Scope, left: &Option<Text>) -> Option<Kind>
     ensures { result ≡ left_kind (map seen scope.now) left.now }
 {
     match left {
@@ -64,7 +60,7 @@ fn left_kind(scope: &[Declared], left: &Option<Text>) -> Option<Kind>
 #[tactic(auto, using(crate::proofs::Bodies::out_bool_built, crate::proofs::Bodies::out_real_built, crate::proofs::Guards::none_followed))]
 fn body_of_kind(
     alloc: Global,
-    scope: &[Declared],
+    scope: &Scope,
     known: &[Known],
     eps: Frac,
     first: usize,
@@ -73,10 +69,8 @@ fn body_of_kind(
     whole: &Expr,
 ) -> Result<Body, TypeFault>
     requires { HasLiterals (tree_of whole.now) }
-    ensures body { IfOk result (λ b. IsBuilt (setting_in scope.now known.now eps)
-        (first + length guards.old.items) (Some kind) (said.Output (tree_of whole.now)) b) }
-    ensures guards { IfOk result (λ _. AreFollowed (map seen scope.now) guards.old.items
-        (body_comparisons (Some kind) (said.Output (tree_of whole.now))) guards.new.items) }
+    ensures body { IfOk result (IsOutputIn scope.now known.now eps first guards.old (Some kind) whole.now) }
+    ensures guards { IfOk result (λ _. FollowOutput scope.now guards.old (Some kind) whole.now guards.new) }
 {
     match kind {
         Kind::Bool => Ok(Body::OutBool(formula(alloc, scope, first, guards, whole)?)),
@@ -86,7 +80,7 @@ fn body_of_kind(
 
 fn output_body(
     alloc: Global,
-    scope: &[Declared],
+    scope: &Scope,
     known: &[Known],
     eps: Frac,
     first: usize,
@@ -95,10 +89,8 @@ fn output_body(
     whole: &Expr,
 ) -> Result<Body, TypeFault>
     requires { HasLiterals (tree_of whole.now) }
-    ensures body { IfOk result (λ b. IsBuilt (setting_in scope.now known.now eps)
-        (first + length guards.old.items) kind (said.Output (tree_of whole.now)) b) }
-    ensures guards { IfOk result (λ _. AreFollowed (map seen scope.now) guards.old.items
-        (body_comparisons kind (said.Output (tree_of whole.now))) guards.new.items) }
+    ensures body { IfOk result (IsOutputIn scope.now known.now eps first guards.old kind whole.now) }
+    ensures guards { IfOk result (λ _. FollowOutput scope.now guards.old kind whole.now guards.new) }
 {
     match kind {
         None => Err(TypeFault::Kind(place_of(whole))),
@@ -109,15 +101,14 @@ fn output_body(
 // The body of a comparison that is demanded.
 fn comparison_body(
     alloc: Global,
-    scope: &[Declared],
+    scope: &Scope,
     known: &[Known],
     eps: Frac,
     kind: Option<Kind>,
     whole: &Expr,
 ) -> Result<Body, TypeFault>
     requires { HasLiterals (tree_of whole.now) }
-    ensures { IfOk result (λ b. (j : ℕ) →
-        IsBuilt (setting_in scope.now known.now eps) j kind (said.Must (tree_of whole.now)) b) }
+    ensures { IfOk result (IsComparisonIn scope.now known.now eps kind whole.now) }
 {
     match whole {
         Expr::Binary(op, left, right, place) => {
@@ -152,7 +143,7 @@ fn comparison_body(
 #[tactic(auto, using(crate::proofs::Bodies::must_hold_built, crate::proofs::Guards::none_followed))]
 fn demand(
     alloc: Global,
-    scope: &[Declared],
+    scope: &Scope,
     known: &[Known],
     eps: Frac,
     first: usize,
@@ -161,10 +152,8 @@ fn demand(
     whole: &Expr,
 ) -> Result<Body, TypeFault>
     requires { HasLiterals (tree_of whole.now) }
-    ensures body { IfOk result (λ b. IsBuilt (setting_in scope.now known.now eps)
-        (first + length guards.old.items) kind (said.Must (tree_of whole.now)) b) }
-    ensures guards { IfOk result (λ _. AreFollowed (map seen scope.now) guards.old.items
-        (body_comparisons kind (said.Must (tree_of whole.now))) guards.new.items) }
+    ensures body { IfOk result (IsDemandIn scope.now known.now eps first guards.old kind whole.now) }
+    ensures guards { IfOk result (λ _. FollowDemand scope.now guards.old kind whole.now guards.new) }
 {
     if compares(whole) {
         return comparison_body(alloc, scope, known, eps, kind, whole);
@@ -176,7 +165,7 @@ fn demand(
 #[tactic(auto, using(crate::proofs::Bodies::guard_built, crate::proofs::Bodies::logic_built, crate::proofs::Bodies::linear_built, crate::proofs::Bodies::next_bool_built, crate::proofs::Bodies::next_real_built, crate::proofs::Guards::none_followed))]
 fn plain_body(
     alloc: Global,
-    scope: &[Declared],
+    scope: &Scope,
     known: &[Known],
     eps: Frac,
     first: usize,
@@ -185,12 +174,8 @@ fn plain_body(
     whole: &Expr,
 ) -> Result<Body, TypeFault>
     requires { HasLiterals (tree_of whole.now) }
-    ensures body { IfOk result (λ b. IsShapeBuilt (setting_in scope.now known.now eps)
-        (first + length guards.old.items) item.now.name item.now.section
-        (tree.Plain (tree_of whole.now)) b) }
-    ensures guards { IfOk result (λ _. AreFollowed (map seen scope.now) guards.old.items
-        (shape_comparisons (map seen scope.now) item.now.name item.now.section
-        (tree.Plain (tree_of whole.now))) guards.new.items) }
+    ensures body { IfOk result (IsPlainIn scope.now known.now eps first guards.old item.now whole.now) }
+    ensures guards { IfOk result (λ _. FollowPlain scope.now guards.old item.now whole.now guards.new) }
 {
     match item.section {
         Section::Ad => Ok(Body::Guard {
@@ -222,7 +207,7 @@ fn plain_body(
 #[tactic(auto, using(crate::proofs::Bodies::wide_built))]
 fn wide_body(
     alloc: Global,
-    scope: &[Declared],
+    scope: &Scope,
     known: &[Known],
     eps: Frac,
     item: &Item,
@@ -231,10 +216,8 @@ fn wide_body(
 ) -> Result<Body, TypeFault>
     requires whole { HasLiterals (tree_of whole.now) }
     requires tolerance { HasLiterals (tree_of tolerance.now) }
-    ensures body { IfOk result (λ b. (j : ℕ) → IsShapeBuilt (setting_in scope.now known.now eps) j
-        item.now.name item.now.section (tree.Wide (tree_of whole.now) (tree_of tolerance.now)) b) }
-    ensures guards { shape_comparisons (map seen scope.now) item.now.name item.now.section
-        (tree.Wide (tree_of whole.now) (tree_of tolerance.now)) ≡ [] }
+    ensures body { IfOk result (IsWideIn scope.now known.now eps item.now whole.now tolerance.now) }
+    ensures guards { HasNoGuard scope.now item.now whole.now tolerance.now }
 {
     match item.section {
         Section::Ad => {
@@ -259,7 +242,7 @@ fn wide_body(
 
 // The form of an ELSE, or 0.
 #[tactic(auto, using(crate::proofs::Bodies::no_else))]
-fn else_affine(alloc: Global, scope: &[Declared], other: &Option<Expr>) -> Result<Affine, TypeFault>
+fn else_affine(alloc: Global, scope: &Scope, other: &Option<Expr>) -> Result<Affine, TypeFault>
     requires { HaveLiterals (maybe_tree_of other.now) }
     ensures { IfOk result (λ f. IsElseForm (map seen scope.now) (maybe_tree_of other.now) f) }
 {
@@ -276,7 +259,7 @@ fn else_affine(alloc: Global, scope: &[Declared], other: &Option<Expr>) -> Resul
 #[tactic(auto, using(crate::proofs::Bodies::choice_built))]
 fn choice_body(
     alloc: Global,
-    scope: &[Declared],
+    scope: &Scope,
     known: &[Known],
     eps: Frac,
     first: usize,
@@ -289,12 +272,10 @@ fn choice_body(
     requires when { HasLiterals (tree_of when.now) }
     requires hit { HasLiterals (tree_of hit.now) }
     requires other { HaveLiterals (maybe_tree_of other.now) }
-    ensures body { IfOk result (λ b. IsShapeBuilt (setting_in scope.now known.now eps)
-        (first + length guards.old.items) item.now.name item.now.section
-        (tree.Choice (tree_of when.now) (tree_of hit.now) (maybe_tree_of other.now)) b) }
-    ensures guards { IfOk result (λ _. AreFollowed (map seen scope.now) guards.old.items
-        (shape_comparisons (map seen scope.now) item.now.name item.now.section
-        (tree.Choice (tree_of when.now) (tree_of hit.now) (maybe_tree_of other.now))) guards.new.items) }
+    ensures body { IfOk result
+        (IsChoiceIn scope.now known.now eps first guards.old item.now when.now hit.now other.now) }
+    ensures guards { IfOk result (λ _.
+        FollowChoice scope.now guards.old item.now when.now hit.now other.now guards.new) }
 {
     match item.section {
         Section::Da => {
@@ -322,7 +303,7 @@ fn choice_body(
 #[tactic(auto, using(crate::proofs::Bodies::no_guards))]
 pub fn body_of(
     alloc: Global,
-    scope: &[Declared],
+    scope: &Scope,
     known: &[Known],
     eps: Frac,
     first: usize,
@@ -330,10 +311,8 @@ pub fn body_of(
     item: &Item,
 ) -> Result<Body, TypeFault>
     requires { HasItemLiterals (item_of item.now) }
-    ensures body { IfOk result (λ b. IsBuilt (setting_in scope.now known.now eps) (first + length guards.old.items)
-        (left_kind (map seen scope.now) item.now.name) (body (item_of item.now)) b) }
-    ensures guards { IfOk result (λ _. AreFollowed (map seen scope.now) guards.old.items
-        (body_comparisons (left_kind (map seen scope.now) item.now.name) (body (item_of item.now))) guards.new.items) }
+    ensures body { IfOk result (IsBodyIn scope.now known.now eps first guards.old item.now) }
+    ensures guards { IfOk result (λ _. FollowItem scope.now guards.old item.now guards.new) }
 {
     match &item.shape {
         Shape::Plain(whole) => plain_body(alloc, scope, known, eps, first, guards, item, whole),

@@ -1,14 +1,12 @@
 //! The boxes of states and inputs.
 
-ghost use Rattle.std.specs.Prelude.{◌≡◌, [], ◌∷◌, ◌++◌, Some, IfOk};
+ghost use Rattle.std.specs.Prelude.{◌≡◌, IfOk};
 ghost use Rattle.std.specs.Result.{result_err};
 ghost use Rattle.hys_ast.specs.Seen.{tree_of, decl_of};
-ghost use Rattle.hys_ast.specs.declared.source.Kind.TheVariants as kind;
-ghost use Rattle.hys_meaning.specs.Values.{value};
 ghost use Rattle.hys_meaning.specs.Typed.{has_box};
-ghost use Rattle.hys_type.specs.Faults.{first_fault, check};
-ghost use Rattle.hys_type.specs.Constants.{known_values, HasLiterals};
-ghost use Rattle.hys_type.specs.Declarations.{constant_of_kind, ends_checks, bounds_checks, box_checks, box_of, usual_box, HasBoundLiterals};
+ghost use Rattle.hys_type.specs.Faults.{first_fault};
+ghost use Rattle.hys_type.specs.Constants.{HasLiterals};
+ghost use Rattle.hys_type.specs.Declarations.{ends_checks, bounds_checks, AreEnds, box_checks, box_of, usual_box, HasBoundLiterals};
 
 use crate::constant::Known;
 use crate::fault::TypeFault;
@@ -35,8 +33,7 @@ fn between(known: &[Known], low: &Expr, high: &Expr, place: Place) -> Result<Int
     requires high { HasLiterals (tree_of high.now) }
     ensures fault { result_err result ≡
         first_fault (bounds_checks known.now (tree_of low.now) (tree_of high.now) place) }
-    ensures ends { IfOk result (λ i. (i.low ≡ value (known_values known.now) (tree_of low.now))
-        × (i.high ≡ value (known_values known.now) (tree_of high.now))) }
+    ensures ends { IfOk result (AreEnds known.now (tree_of low.now) (tree_of high.now)) }
 {
     let low = evaluate_as(known, Kind::Real, low)?;
     let high = evaluate_as(known, Kind::Real, high)?;

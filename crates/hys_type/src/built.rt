@@ -1,26 +1,24 @@
 //! What is built of the expressions of items.
 
-ghost use Rattle.std.specs.Prelude.{◌≡◌, ◌+◌, ◌≤◌, [], ◌∷◌, ◌++◌, map, length, true, IfOk};
+ghost use Rattle.std.specs.Prelude.{◌≡◌, ◌+◌, ◌++◌, map, length, true, IfOk};
 ghost use Rattle.hys_lin.specs.Scaled.{kept};
 ghost use Rattle.hys_lin.specs.Bits.{is_one};
 ghost use Rattle.hys_ast.specs.Seen.{tree_of};
-ghost use Rattle.hys_ast.specs.Tree as tree;
-ghost use Rattle.hys_meaning.specs.Names.{look};
 ghost use Rattle.hys_meaning.specs.Forms.{form};
 ghost use Rattle.hys_meaning.specs.Unfolded.{is_inequality};
 ghost use Rattle.hys_formula.specs.Formulas.{tree_of as formula_of};
 ghost use Rattle.hys_formula.specs.Formulas as formulas;
 ghost use Rattle.hys_type.specs.Constants.{HasLiterals};
 ghost use Rattle.hys_type.specs.Operands.{seen};
-ghost use Rattle.hys_type.specs.Translation.{place_in, IsFormOf, name_formula, signed_by, joined_by, connective_of};
-ghost use Rattle.hys_type.specs.Built.{sparse, comparisons, built, AreFollowed};
-ghost use Rattle.hys_type.specs.Scopes.{IsDifference, IsFormBetween};
+ghost use Rattle.hys_type.specs.Translation.{IsFormOf, signed_by, joined_by, connective_of};
+ghost use Rattle.hys_type.specs.Built.{sparse, own_formula};
+ghost use Rattle.hys_type.specs.Scopes.{IsDifference, IsFormBetween, built_behind, FollowFormula, FollowGuard};
 
 use crate::dense::Dense;
 use crate::fault::TypeFault;
 use crate::node::folded;
 use crate::right::{is_inequality, read_real};
-use crate::scope::{Declared, is_parameter, look};
+use crate::scope::{Scope, is_parameter, look, place_in};
 use hys_ast::{BinaryOp, Expr, Place, UnaryOp};
 use hys_base::{List, Text};
 use hys_formula::{Connective, Formula};
@@ -80,7 +78,7 @@ pub fn sparse(alloc: Global, form: &Dense) -> Result<Affine, TypeFault>
 
 /// The affine form of a real expression.
 #[tactic(auto, using(crate::proofs::SparseForms::sparse_is))]
-pub fn affine(alloc: Global, scope: &[Declared], whole: &Expr) -> Result<Affine, TypeFault>
+pub fn affine(alloc: Global, scope: &Scope, whole: &Expr) -> Result<Affine, TypeFault>
     requires { HasLiterals (tree_of whole.now) }
     ensures { IfOk result (λ f. IsFormOf (map seen scope.now) (form (map seen scope.now) (tree_of whole.now)) f) }
 {
@@ -92,7 +90,7 @@ pub fn affine(alloc: Global, scope: &[Declared], whole: &Expr) -> Result<Affine,
 #[tactic(auto, using(crate::proofs::SparseForms::sparse_is, crate::proofs::SparseForms::difference_is, crate::proofs::SparseForms::same_length))]
 pub fn difference(
     alloc: Global,
-    scope: &[Declared],
+    scope: &Scope,
     left: &Expr,
     right: &Expr,
     place: Place,
@@ -110,7 +108,7 @@ pub fn difference(
 /// The guard number of a comparison.
 pub fn guard_number(
     alloc: Global,
-    scope: &[Declared],
+    scope: &Scope,
     op: BinaryOp,
     left: &Expr,
     right: &Expr,
@@ -139,23 +137,6 @@ pub fn guard_number(
 
 // ---- formulas
 
-/// The place of a declared name.
-pub fn place_in(scope: &[Declared], name: &Text) -> usize
-    ensures place { result ≡ place_in (map seen scope.now) name.now }
-    ensures within { result ≤ length scope.now }
-{
-    match scope.split_first() {
-        None => 0,
-        Some((first, rest)) => {
-            if first.text == *name {
-                0
-            } else {
-                1 + place_in(rest, name)
-            }
-        }
-    }
-}
-
 // Whether the number is 1.
 #[tactic(auto, unfolding(hys_lin::specs::Bits::is_one))]
 fn is_one(number: Frac) -> bool
@@ -164,9 +145,8 @@ fn is_one(number: Frac) -> bool
     number.num() == 1 && number.den() == 1
 }
 
-fn name_formula(scope: &[Declared], name: &Text) -> Result<Formula, TypeFault>
-    ensures { IfOk result (λ l.
-        formula_of l ≡ name_formula (map seen scope.now) name.now (look (map seen scope.now) name.now)) }
+fn name_formula(scope: &Scope, name: &Text) -> Result<Formula, TypeFault>
+    ensures { IfOk result (λ l. formula_of l ≡ own_formula (map seen scope.now) name.now) }
 {
     match look(scope, name) {
         None => Ok(Formula::Const(false)),
@@ -222,7 +202,7 @@ fn joined(alloc: Global, op: BinaryOp, left: Formula, right: Formula) -> Result<
 #[tactic(auto, using(crate::proofs::Guards::one_guard))]
 fn name_guard(
     alloc: Global,
-    scope: &[Declared],
+    scope: &Scope,
     first: usize,
     guards: &mut Vec<Guard>,
     op: BinaryOp,
@@ -234,8 +214,8 @@ fn name_guard(
     requires left { HasLiterals (tree_of left.now) }
     requires right { HasLiterals (tree_of right.now) }
     ensures formula { IfOk result (λ l. formula_of l ≡ formulas.named (first + length guards.old.items)) }
-    ensures guards { IfOk result (λ _. AreFollowed (map seen scope.now) guards.old.items
-        (tree.Binary op (tree_of left.now) (tree_of right.now) place ∷ []) guards.new.items) }
+    ensures guards { IfOk result (λ _.
+        FollowGuard scope.now guards.old op left.now right.now place guards.new) }
 {
     let number = guard_number(alloc, scope, op, left, right, place)?;
     let name = column_at(first)?
@@ -249,16 +229,14 @@ fn name_guard(
 #[tactic(auto, using(crate::proofs::Guards::none_followed, crate::proofs::Guards::both_followed, crate::proofs::Guards::followed_length))]
 pub fn formula(
     alloc: Global,
-    scope: &[Declared],
+    scope: &Scope,
     first: usize,
     guards: &mut Vec<Guard>,
     whole: &Expr,
 ) -> Result<Formula, TypeFault>
     requires { HasLiterals (tree_of whole.now) }
-    ensures formula { IfOk result (λ l.
-        formula_of l ≡ built (map seen scope.now) (first + length guards.old.items) (tree_of whole.now)) }
-    ensures guards { IfOk result (λ _.
-        AreFollowed (map seen scope.now) guards.old.items (comparisons (tree_of whole.now)) guards.new.items) }
+    ensures formula { IfOk result (λ l. formula_of l ≡ built_behind scope.now first guards.old whole.now) }
+    ensures guards { IfOk result (λ _. FollowFormula scope.now guards.old whole.now guards.new) }
 {
     match whole {
         Expr::Truth(truth, _) => Ok(Formula::Const(*truth)),

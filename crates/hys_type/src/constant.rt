@@ -1,6 +1,6 @@
 //! The values of constant expressions.
 
-ghost use Rattle.std.specs.Prelude.{◌≡◌, [], ◌∷◌, Some, None, MatchOption, IfOk};
+ghost use Rattle.std.specs.Prelude.{◌≡◌, [], Some, None, MatchOption, IfOk};
 ghost use Rattle.std.specs.Result.{result_err};
 ghost use Rattle.hys_number.specs.Ops.{whole};
 ghost use Rattle.hys_ast.specs.Seen.{tree_of};
@@ -8,10 +8,9 @@ ghost use Rattle.hys_lin.specs.Bits.{is_one};
 ghost use Rattle.hys_meaning.specs.Folding.{is_zero};
 ghost use Rattle.hys_meaning.specs.Values.{literal, computed, joined};
 ghost use Rattle.hys_ast.specs.declared.tree.BinaryOp.TheVariants as binary;
-ghost use Rattle.hys_type.specs.Sorts.{Real, Bool', takes_unary};
-ghost use Rattle.hys_type.specs.Faults.{first_fault, check};
-ghost use Rattle.hys_type.specs.Constants.{find_known, name_checks, may_stand, may_be_cast, operator_checks, constant_checks, IsWorth, IsLiteral, HasLiterals, constant_sort, constant_number, of_kind, signed_constant, joined_constant, shown_as};
-ghost use Rattle.hys_type.specs.declared.fault.TypeFault.TheVariants as fault;
+ghost use Rattle.hys_type.specs.Sorts.{Real, Bool'};
+ghost use Rattle.hys_type.specs.Faults.{first_fault};
+ghost use Rattle.hys_type.specs.Constants.{find_known, name_checks, may_stand, may_be_cast, operator_checks, constant_checks, IsWorth, IsLiteral, HasLiterals, sign_checks, pair_checks, of_kind, signed_constant, joined_constant, shown_as};
 ghost use Rattle.hys_type.specs.declared.constant.Constant.TheVariants as constant;
 ghost use Rattle.hys_ast.specs.Tree as tree;
 
@@ -134,8 +133,7 @@ fn cast(known: &[Known], name: &Text, place: Place) -> Result<Constant, TypeFaul
 }
 
 fn signed(op: UnaryOp, operand: Constant, place: Place) -> Result<Constant, TypeFault>
-    ensures fault { result_err result ≡
-        first_fault (check (takes_unary op (constant_sort operand)) (fault.Kind place) ∷ []) }
+    ensures fault { result_err result ≡ first_fault (sign_checks op operand place) }
     ensures worth { IfOk result (λ c. c ≡ signed_constant op operand) }
 {
     match (op, operand) {
@@ -223,8 +221,7 @@ fn joined(
     right: Constant,
     place: Place,
 ) -> Result<Constant, TypeFault>
-    ensures fault { result_err result ≡ first_fault (operator_checks op
-        (constant_sort left) (constant_sort right) (constant_number left) (constant_number right) place) }
+    ensures fault { result_err result ≡ first_fault (pair_checks op left right place) }
     ensures worth { IfOk result (λ c. c ≡ joined_constant op left right) }
 {
     match left {

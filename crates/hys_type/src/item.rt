@@ -1,27 +1,24 @@
 //! The faults of items.
 
-ghost use Rattle.std.specs.Prelude.{◌≡◌, [], ◌++◌, map, Some};
+ghost use Rattle.std.specs.Prelude.{◌≡◌, [], map, Some};
 ghost use Rattle.std.specs.List.{AllByRecursion};
 ghost use Rattle.std.specs.Result.{result_err};
 ghost use Rattle.hys_ast.specs.Seen.{tree_of, maybe_tree_of, item_of};
-ghost use Rattle.hys_ast.specs.Tree as tree;
 ghost use Rattle.hys_ast.specs.declared.source.Kind.TheVariants as kind;
-ghost use Rattle.hys_meaning.specs.Bodies.{body};
 ghost use Rattle.hys_meaning.specs.Typed.{suits};
-ghost use Rattle.hys_meaning.specs.Unfolded.{is_inequality};
 ghost use Rattle.hys_type.specs.Faults.{Answers, first_fault};
 ghost use Rattle.hys_type.specs.Constants.{HasLiterals};
 ghost use Rattle.hys_type.specs.Declarations.{if_some, HaveLiterals};
 ghost use Rattle.hys_type.specs.Walks.{walk};
-ghost use Rattle.hys_type.specs.Checks.{expression, has_top, of_kind, left_name, left_checks, tolerance_checks, output_checks, right_checks, item_checks, HasItemLiterals};
-ghost use Rattle.hys_type.specs.Scopes.{scope_in, shape_checks, choice_checks};
+ghost use Rattle.hys_type.specs.Checks.{of_kind, tolerance_checks, item_checks, HasItemLiterals};
+ghost use Rattle.hys_type.specs.Scopes.{scope_in, left_checks_in, left_name_checks, output_checks_in, plain_checks, bracketed_checks, wide_checks, part_checks, choice_checks, item_right_checks};
 ghost use Rattle.hys_type.specs.Operands.{seen};
 
 use crate::constant::Known;
 use crate::fault::TypeFault;
 use crate::missing::is_among;
 use crate::right::{check_demand, check_formula, check_guard, read_real, read_tolerance};
-use crate::scope::{Declared, look};
+use crate::scope::{Declared, Scope, look};
 use hys_ast::{Expr, Item, Kind, Place, Section, Shape};
 use hys_base::Text;
 use std::alloc::Global;
@@ -54,14 +51,8 @@ fn suits(section: Section, found: &Declared) -> bool
 }
 
 #[tactic(auto, using(crate::proofs::Knowing::any_item))]
-fn check_left(
-    scope: &[Declared],
-    before: &[Item],
-    item: &Item,
-    name: &Text,
-) -> Result<(), TypeFault>
-    ensures { result_err result ≡
-        first_fault (left_checks (map seen scope.now) (map item_of before.now) (item_of item.now) name.now) }
+fn check_left(scope: &Scope, before: &[Item], item: &Item, name: &Text) -> Result<(), TypeFault>
+    ensures { result_err result ≡ first_fault (left_checks_in scope.now before.now item.now name.now) }
 {
     match look(scope, name) {
         None => Err(TypeFault::Unknown(item.place)),
@@ -77,9 +68,8 @@ fn check_left(
     }
 }
 
-fn check_left_name(scope: &[Declared], before: &[Item], item: &Item) -> Result<(), TypeFault>
-    ensures { result_err result ≡ first_fault (if_some
-        (left_checks (map seen scope.now) (map item_of before.now) (item_of item.now)) item.now.name) }
+fn check_left_name(scope: &Scope, before: &[Item], item: &Item) -> Result<(), TypeFault>
+    ensures { result_err result ≡ first_fault (left_name_checks scope.now before.now item.now) }
 {
     match &item.name {
         None => Ok(()),
@@ -87,7 +77,7 @@ fn check_left_name(scope: &[Declared], before: &[Item], item: &Item) -> Result<(
     }
 }
 
-fn check_real(alloc: Global, scope: &[Declared], whole: &Expr) -> Result<(), TypeFault>
+fn check_real(alloc: Global, scope: &Scope, whole: &Expr) -> Result<(), TypeFault>
     requires { HasLiterals (tree_of whole.now) }
     ensures { Answers result (of_kind kind.Real (map seen scope.now) (tree_of whole.now)) }
 {
@@ -97,12 +87,7 @@ fn check_real(alloc: Global, scope: &[Declared], whole: &Expr) -> Result<(), Typ
     }
 }
 
-fn check_of_kind(
-    alloc: Global,
-    scope: &[Declared],
-    kind: Kind,
-    whole: &Expr,
-) -> Result<(), TypeFault>
+fn check_of_kind(alloc: Global, scope: &Scope, kind: Kind, whole: &Expr) -> Result<(), TypeFault>
     requires { HasLiterals (tree_of whole.now) }
     ensures { Answers result (of_kind kind (map seen scope.now) (tree_of whole.now)) }
 {
@@ -115,13 +100,12 @@ fn check_of_kind(
 // An output has its declared kind.
 fn check_output(
     alloc: Global,
-    scope: &[Declared],
+    scope: &Scope,
     left: &Option<Text>,
     whole: &Expr,
 ) -> Result<(), TypeFault>
     requires { HasLiterals (tree_of whole.now) }
-    ensures { Answers result
-        (output_checks (map seen scope.now) (left_name (map seen scope.now) left.now) (tree_of whole.now)) }
+    ensures { Answers result (output_checks_in scope.now left.now whole.now) }
 {
     match left {
         None => Ok(()),
@@ -136,14 +120,13 @@ fn check_output(
 #[tactic(auto, using(crate::proofs::Items::no_tolerance))]
 fn check_plain(
     alloc: Global,
-    scope: &[Declared],
+    scope: &Scope,
     known: &[Known],
     item: &Item,
     whole: &Expr,
 ) -> Result<(), TypeFault>
     requires { HasLiterals (tree_of whole.now) }
-    ensures { Answers result (shape_checks (scope_in scope.now known.now) item.now.name item.now.place item.now.section
-        (tree.Plain (tree_of whole.now))) }
+    ensures { Answers result (plain_checks scope.now known.now item.now whole.now) }
 {
     match item.section {
         Section::Ad => check_guard(alloc, scope, whole),
@@ -173,7 +156,7 @@ fn check_bracket(known: &[Known], place: Place, tolerance: &Expr) -> Result<(), 
 // A comparison with its own tolerance, in AD.
 fn check_bracketed(
     alloc: Global,
-    scope: &[Declared],
+    scope: &Scope,
     known: &[Known],
     place: Place,
     whole: &Expr,
@@ -181,8 +164,7 @@ fn check_bracketed(
 ) -> Result<(), TypeFault>
     requires whole { HasLiterals (tree_of whole.now) }
     requires tolerance { HasLiterals (tree_of tolerance.now) }
-    ensures { Answers result (expression (map seen scope.now) (has_top is_inequality) (tree_of whole.now)
-        ++ tolerance_checks known.now place (tree_of tolerance.now)) }
+    ensures { Answers result (bracketed_checks scope.now known.now place whole.now tolerance.now) }
 {
     check_guard(alloc, scope, whole)?;
     check_bracket(known, place, tolerance)
@@ -190,7 +172,7 @@ fn check_bracketed(
 
 fn check_wide(
     alloc: Global,
-    scope: &[Declared],
+    scope: &Scope,
     known: &[Known],
     item: &Item,
     whole: &Expr,
@@ -198,8 +180,7 @@ fn check_wide(
 ) -> Result<(), TypeFault>
     requires whole { HasLiterals (tree_of whole.now) }
     requires tolerance { HasLiterals (tree_of tolerance.now) }
-    ensures { Answers result (shape_checks (scope_in scope.now known.now) item.now.name item.now.place item.now.section
-        (tree.Wide (tree_of whole.now) (tree_of tolerance.now))) }
+    ensures { Answers result (wide_checks scope.now known.now item.now whole.now tolerance.now) }
 {
     match item.section {
         Section::Ad => check_bracketed(alloc, scope, known, item.place, whole, tolerance),
@@ -218,7 +199,7 @@ fn check_wide(
     }
 }
 
-fn check_else(alloc: Global, scope: &[Declared], other: &Option<Expr>) -> Result<(), TypeFault>
+fn check_else(alloc: Global, scope: &Scope, other: &Option<Expr>) -> Result<(), TypeFault>
     requires { HaveLiterals (maybe_tree_of other.now) }
     ensures { Answers result (if_some (of_kind kind.Real (map seen scope.now)) (maybe_tree_of other.now)) }
 {
@@ -231,7 +212,7 @@ fn check_else(alloc: Global, scope: &[Declared], other: &Option<Expr>) -> Result
 // The condition, the THEN and the ELSE of a choice.
 fn check_parts(
     alloc: Global,
-    scope: &[Declared],
+    scope: &Scope,
     when: &Expr,
     hit: &Expr,
     other: &Option<Expr>,
@@ -239,8 +220,7 @@ fn check_parts(
     requires when { HasLiterals (tree_of when.now) }
     requires hit { HasLiterals (tree_of hit.now) }
     requires other { HaveLiterals (maybe_tree_of other.now) }
-    ensures { Answers result
-        (choice_checks (map seen scope.now) (tree_of when.now) (tree_of hit.now) (maybe_tree_of other.now)) }
+    ensures { Answers result (part_checks scope.now when.now hit.now other.now) }
 {
     check_formula(alloc, scope, when)?;
     check_real(alloc, scope, hit)?;
@@ -249,7 +229,7 @@ fn check_parts(
 
 fn check_choice(
     alloc: Global,
-    scope: &[Declared],
+    scope: &Scope,
     known: &[Known],
     item: &Item,
     when: &Expr,
@@ -259,8 +239,7 @@ fn check_choice(
     requires when { HasLiterals (tree_of when.now) }
     requires hit { HasLiterals (tree_of hit.now) }
     requires other { HaveLiterals (maybe_tree_of other.now) }
-    ensures { Answers result (shape_checks (scope_in scope.now known.now) item.now.name item.now.place item.now.section
-        (tree.Choice (tree_of when.now) (tree_of hit.now) (maybe_tree_of other.now))) }
+    ensures { Answers result (choice_checks scope.now known.now item.now when.now hit.now other.now) }
 {
     match item.section {
         Section::Da => check_parts(alloc, scope, when, hit, other),
@@ -279,15 +258,9 @@ fn check_choice(
     }
 }
 
-fn check_right(
-    alloc: Global,
-    scope: &[Declared],
-    known: &[Known],
-    item: &Item,
-) -> Result<(), TypeFault>
+fn check_right(alloc: Global, scope: &Scope, known: &[Known], item: &Item) -> Result<(), TypeFault>
     requires { HasItemLiterals (item_of item.now) }
-    ensures { Answers result (right_checks (scope_in scope.now known.now) (left_name (map seen scope.now) item.now.name)
-        item.now.place (body (item_of item.now))) }
+    ensures { Answers result (item_right_checks scope.now known.now item.now) }
 {
     match &item.shape {
         Shape::Plain(whole) => check_plain(alloc, scope, known, item, whole),
@@ -301,7 +274,7 @@ fn check_right(
 // The fault of an item behind others, if it has one.
 fn check_item(
     alloc: Global,
-    scope: &[Declared],
+    scope: &Scope,
     known: &[Known],
     before: &[Item],
     item: &Item,
@@ -316,7 +289,7 @@ fn check_item(
 /// The fault of the first item that has one.
 pub fn check_items(
     alloc: Global,
-    scope: &[Declared],
+    scope: &Scope,
     known: &[Known],
     items: &[Item],
 ) -> Result<(), TypeFault>

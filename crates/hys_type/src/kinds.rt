@@ -1,14 +1,13 @@
 //! Constant expressions of a wanted kind.
 
-ghost use Rattle.std.specs.Prelude.{◌≡◌, [], ◌∷◌, IfOk};
+ghost use Rattle.std.specs.Prelude.{◌≡◌, IfOk};
 ghost use Rattle.std.specs.Result.{result_err};
 ghost use Rattle.hys_lin.specs.Bits.{bit};
 ghost use Rattle.hys_ast.specs.Seen.{tree_of};
 ghost use Rattle.hys_meaning.specs.Values.{given};
-ghost use Rattle.hys_type.specs.Faults.{first_fault, check};
-ghost use Rattle.hys_type.specs.Constants.{known_values, constant_sort, IsNumberOf, HasLiterals};
-ghost use Rattle.hys_type.specs.Declarations.{place_of, is_of_kind, constant_of_kind};
-ghost use Rattle.hys_type.specs.declared.fault.TypeFault.TheVariants as fault;
+ghost use Rattle.hys_type.specs.Faults.{first_fault};
+ghost use Rattle.hys_type.specs.Constants.{known_values, IsNumberOf, HasLiterals};
+ghost use Rattle.hys_type.specs.Declarations.{place_of, kind_checks, constant_of_kind};
 
 use crate::constant::{Constant, Known, evaluate};
 use crate::fault::TypeFault;
@@ -39,8 +38,7 @@ fn bit(truth: bool) -> Frac
 }
 
 fn number_of(kind: Kind, constant: Constant, place: Place) -> Result<Frac, TypeFault>
-    ensures fault { result_err result ≡
-        first_fault (check (is_of_kind kind (constant_sort constant)) (fault.Kind place) ∷ []) }
+    ensures fault { result_err result ≡ first_fault (kind_checks kind constant place) }
     ensures number { IfOk result (λ n. IsNumberOf kind constant n) }
 {
     match kind {

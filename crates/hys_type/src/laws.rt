@@ -1,47 +1,30 @@
 //! What holds of the definitions, as calls that do nothing.
 
-ghost use Rattle.std.specs.Prelude.{◌≡◌, ◌<◌, ◌↔◌, ℕ, List, [], ◌∷◌, Some, None, true, codes, length};
-ghost use Rattle.std.specs.List.{AllByRecursion};
-ghost use Rattle.hys_number.specs.Ops.{◌<ₙ◌, whole};
-ghost use Rattle.hys_type.specs.Rules.{KeepsTyping};
-ghost use Rattle.hys_prog.specs.Programs.{IsProgram};
-ghost use Rattle.hys_type.specs.Declaring.{IsDeclaration};
+ghost use Rattle.std.specs.Prelude.{◌≡◌, List, [], ◌∷◌, Some, None, true, codes};
+ghost use Rattle.hys_number.specs.Ops.{whole};
 ghost use Rattle.hys_meaning.specs.Forms.{Form};
-ghost use Rattle.hys_meaning.specs.Folding.{each, matched};
 ghost use Rattle.hys_lin.specs.declared.lost.Op.{Op};
 ghost use Rattle.hys_ast.specs.Tree as tree;
 ghost use Rattle.hys_number.specs.Number.{Number};
-ghost use Rattle.hys_lin.specs.Sums.{Assignment as PlaceAssignment};
 ghost use Rattle.hys_ast.specs.Tree.{Source};
-ghost use Rattle.hys_meaning.specs.Values.{Assignment};
-ghost use Rattle.hys_meaning.specs.Names.{Name, names, look};
-ghost use Rattle.hys_meaning.specs.Typed.{DeclaredOnce};
+ghost use Rattle.hys_meaning.specs.Names.{Name};
 ghost use Rattle.hys_meaning.specs.Unfolded.{unfolded};
-ghost use Rattle.hys_prog.specs.declared.program.Program.{Program};
-ghost use Rattle.hys_type.specs.Translation.{IsTranslation};
-ghost use Rattle.hys_type.specs.Views.{by_places, by_texts};
-ghost use Rattle.hys_type.specs.ProgramTrees.{program_tree};
-ghost use Rattle.hys_type.specs.SameMeaning.{Translates, StepsByPlaces, StepsByTexts, LegalByPlaces, LegalByTexts, CirclesByPlaces, CirclesByTexts, ValuesByPlaces, ValuesByTexts};
-ghost use Rattle.hys_type.specs.SmallProgram.{small, small_program};
-ghost use Rattle.hys_type.specs.RichProgram.{rich, rich_program, when_tree, next_tree, demand_tree};
+ghost use Rattle.hys_type.specs.SameMeaning.{Translates, OfEachTranslation, HasOneTranslation, BecomesProgram, TextsAgain, PlacesAgain, StepsByPlaces, StepsByTexts, LegalByPlaces, LegalByTexts, CirclesByPlaces, ReadCirclesByTexts, ValuesByPlaces, ValuesByTexts};
+ghost use Rattle.hys_type.specs.SmallProgram.{small, small_program, IsSmallJustWhere};
+ghost use Rattle.hys_type.specs.RichProgram.{TranslatesRich};
 ghost use Rattle.hys_formula.specs.declared.formula.Formula.{Formula};
-ghost use Rattle.hys_formula.specs.Formulas.{tree_of as formula_of};
 ghost use Rattle.hys_type.specs.Checks.{fault_of};
 ghost use Rattle.hys_type.specs.Examples.{spot, name, zero_at, ten_at, state, source, stepping, squared, truth_and_unknown, twice_declared, bounded_by_itself, of_an_output, twice_defined};
 ghost use Rattle.hys_type.specs.declared.fault.TypeFault.TheVariants as fault;
-ghost use Rattle.hys_type.specs.Dense.{IsDense, between, folded_by, spread};
-ghost use Rattle.hys_type.specs.declared.dense.Dense.{Dense};
+ghost use Rattle.hys_type.specs.Dense.{FoldMatched, FoldLeft, FoldRight};
 
 /// The operations of two dense forms are those of the forms that they stand for, name by name in
 /// the order of declaration and then between the constants; in a product or a quotient the
 /// constant side is spread over the names.
 pub fn dense_operations()
-    ensures matched { (ns : List Name) (o : Op) (f g : Form) (d e : Dense) → IsDense ns f d → IsDense ns g e →
-        folded_by o d e ≡ matched (between o) ns f g }
-    ensures left { (ns : List Name) (o : Op) (f g : Form) (d e : Dense) → IsDense ns f d → IsDense ns g e →
-        folded_by o (spread d) e ≡ each (between o) ns (λ n. f.constant) g.factor f.constant g.constant }
-    ensures right { (ns : List Name) (o : Op) (f g : Form) (d e : Dense) → IsDense ns f d → IsDense ns g e →
-        folded_by o d (spread e) ≡ each (between o) ns f.factor (λ n. g.constant) f.constant g.constant }
+    ensures matched { (ns : List Name) (o : Op) (f g : Form) → FoldMatched ns o f g }
+    ensures left { (ns : List Name) (o : Op) (f g : Form) → FoldLeft ns o f g }
+    ensures right { (ns : List Name) (o : Op) (f g : Form) → FoldRight ns o f g }
 {}
 
 /// The first faults of small sources, and of some that have two.
@@ -63,50 +46,38 @@ pub fn first_faults()
 /// its text and in the program by its place. Going from one to the other and back keeps the number
 /// of each declared name.
 pub fn same_meaning()
-    ensures texts_again { (s : Source) (w : Assignment) (n : List ℕ) (m : Name) → look (names s) n ≡ Some m →
-        by_texts (names s) (by_places (names s) w) n ≡ w n }
-    ensures places_again { (s : Source) (v : PlaceAssignment) (k : ℕ) → DeclaredOnce s → k < length (names s) →
-        by_places (names s) (by_texts (names s) v) k ≡ v k }
-    ensures steps_by_places { (tolerance : Number) (s : Source) (p : Program) → Translates tolerance s p →
-        StepsByPlaces (unfolded s) p }
-    ensures steps_by_texts { (tolerance : Number) (s : Source) (p : Program) → Translates tolerance s p →
-        StepsByTexts (unfolded s) p }
-    ensures legal_by_places { (tolerance : Number) (s : Source) (p : Program) → Translates tolerance s p →
-        LegalByPlaces tolerance (unfolded s) p }
-    ensures legal_by_texts { (tolerance : Number) (s : Source) (p : Program) → Translates tolerance s p →
-        LegalByTexts tolerance (unfolded s) p }
+    ensures texts_again { (s : Source) → TextsAgain s }
+    ensures places_again { (s : Source) → PlacesAgain s }
+    ensures steps_by_places { OfEachTranslation (λ tolerance s p. StepsByPlaces (unfolded s) p) }
+    ensures steps_by_texts { OfEachTranslation (λ tolerance s p. StepsByTexts (unfolded s) p) }
+    ensures legal_by_places { OfEachTranslation (λ tolerance s p. LegalByPlaces tolerance (unfolded s) p) }
+    ensures legal_by_texts { OfEachTranslation (λ tolerance s p. LegalByTexts tolerance (unfolded s) p) }
 {}
 
 /// Under every assignment that has the values of the parameters each item of a translation says what the
 /// item of its source says: the same number or truth, and a guard has its own tolerance.
 pub fn same_values()
-    ensures by_places { (tolerance : Number) (s : Source) (p : Program) → Translates tolerance s p →
-        ValuesByPlaces tolerance (unfolded s) p }
-    ensures by_texts { (tolerance : Number) (s : Source) (p : Program) → Translates tolerance s p →
-        ValuesByTexts tolerance (unfolded s) p }
+    ensures by_places { OfEachTranslation (λ tolerance s p. ValuesByPlaces tolerance (unfolded s) p) }
+    ensures by_texts { OfEachTranslation (λ tolerance s p. ValuesByTexts tolerance (unfolded s) p) }
 {}
 
 /// A source has one translation at a tolerance: any two have the same names, the same items with the same
 /// forms and formulas, and the same weight.
 pub fn one_translation()
-    ensures { (tolerance : Number) (s : Source) (p q : Program) → IsTranslation tolerance s p →
-        IsTranslation tolerance s q → program_tree p ≡ program_tree q }
+    ensures { (tolerance : Number) (s : Source) → HasOneTranslation tolerance s }
 {}
 
 /// The translation of a source that keeps the rules of typing is a program, where the declarations of the
 /// source are as they are read from a text and the tolerance is above 0.
 pub fn translations_are_programs()
-    ensures { (tolerance : Number) (s : Source) (p : Program) → IsTranslation tolerance s p →
-        KeepsTyping (unfolded s) → AllByRecursion IsDeclaration s.decls → whole 0 <ₙ tolerance → IsProgram p }
+    ensures { (tolerance : Number) (s : Source) → BecomesProgram tolerance s }
 {}
 
 /// The circular lists of definitions of a translation are those of its source, by places and by
 /// texts: so a program has none exactly where its source has none.
 pub fn same_circles()
-    ensures by_places { (tolerance : Number) (s : Source) (p : Program) → Translates tolerance s p →
-        CirclesByPlaces (unfolded s) p }
-    ensures by_texts { (tolerance : Number) (s : Source) (p : Program) → Translates tolerance s p →
-        AllByRecursion IsDeclaration s.decls → CirclesByTexts (unfolded s) p }
+    ensures by_places { OfEachTranslation (λ tolerance s p. CirclesByPlaces (unfolded s) p) }
+    ensures by_texts { OfEachTranslation (λ tolerance s p. ReadCirclesByTexts s p) }
 {}
 
 /// A small program is the translation of a small source with an unnamed guard, parameters of both
@@ -114,14 +85,11 @@ pub fn same_circles()
 /// the factor is the parameter's value. The source is typed.
 pub fn small_translation()
     ensures typed { (tolerance : Number) → Translates tolerance small (small_program tolerance (whole 2)) }
-    ensures only { (tolerance eps factor : Number) →
-        IsTranslation tolerance small (small_program eps factor) ↔ ((eps ≡ tolerance) × (factor ≡ whole 2)) }
+    ensures only { (tolerance eps factor : Number) → IsSmallJustWhere tolerance eps factor }
 {}
 
 /// The program of a source with items of every kind, two unnamed guards among them: the formulas that have
 /// the trees of its choice, of its next value and of its demand are all that it leaves open.
 pub fn rich_translation()
-    ensures { (tolerance : Number) (when next demand : Formula) → formula_of when ≡ when_tree →
-        formula_of next ≡ next_tree → formula_of demand ≡ demand_tree →
-        Translates tolerance rich (rich_program tolerance when next demand) }
+    ensures { (tolerance : Number) (when next demand : Formula) → TranslatesRich tolerance when next demand }
 {}

@@ -35,5 +35,5 @@ pub use missing::check_all_defined;
 pub use names::{declared_names, scope_of};
 pub use node::{Node, folded};
 pub use parameters::known_names;
-pub use scope::{Declared, look};
+pub use scope::{Declared, Scope, look};
 pub use translation::program;

@@ -1,8 +1,9 @@
 //! The names of the program, and as items know them.
 
-ghost use Rattle.std.specs.Prelude.{◌≡◌, [], ◌∷◌, ◌++◌, map, cond, IfOk};
+ghost use Rattle.std.specs.Prelude.{◌≡◌, [], map, cond, true, IfOk};
 ghost use Rattle.hys_number.specs.Ops.{whole};
 ghost use Rattle.hys_meaning.specs.Names.{is_parameter};
+ghost use Rattle.hys_meaning.specs.Typed.{differ};
 ghost use Rattle.std.specs.List.{AllByRecursion};
 ghost use Rattle.hys_ast.specs.Seen.{decl_of};
 ghost use Rattle.hys_type.specs.Faults.{Answers};
@@ -15,7 +16,7 @@ ghost use Rattle.hys_type.specs.Made.{declared, program_name};
 use crate::bounds::box_of;
 use crate::constant::{Known, find};
 use crate::fault::TypeFault;
-use crate::scope::{Declared, is_parameter};
+use crate::scope::{Declared, Scope, is_parameter};
 use hys_ast::{Decl, Section};
 use hys_base::Text;
 use hys_frac::Frac;
@@ -112,14 +113,23 @@ fn declared(known: &[Known], decl: &Decl) -> Result<Declared, AllocError>
     })
 }
 
-/// The declared names as items know them.
+// The declared names in their order.
 #[tactic(auto, using(crate::proofs::Operands::made_more))]
-pub fn scope_of(alloc: Global, known: &[Known], decls: &[Decl]) -> Result<Vec<Declared>, AllocError>
+fn all_declared(alloc: Global, known: &[Known], decls: &[Decl]) -> Result<Vec<Declared>, AllocError>
     ensures { IfOk result (λ v. v.items ≡ map (declared known.now) (map decl_of decls.now)) }
 {
-    let mut scope = Vec::new(alloc);
+    let mut names = Vec::new(alloc);
     for decl in decls {
-        scope.push(declared(known, decl)?)?;
+        names.push(declared(known, decl)?)?;
     }
-    Ok(scope)
+    Ok(names)
+}
+
+/// The declared names as items know them.
+#[tactic(auto, using(crate::proofs::Places::declared_once))]
+pub fn scope_of(alloc: Global, known: &[Known], decls: &[Decl]) -> Result<Scope, AllocError>
+    requires { differ (map (λ d. d.name) (map decl_of decls.now)) ≡ true }
+    ensures { IfOk result (λ s. s ≡ map (declared known.now) (map decl_of decls.now)) }
+{
+    Scope::of(alloc, all_declared(alloc, known, decls)?)
 }

@@ -1,15 +1,12 @@
 //! The nodes of the expressions of items.
 
-ghost use Rattle.std.specs.Prelude.{◌≡◌, ◌≢◌, [], ◌∷◌, ◌++◌, Some, None, IfOk, map, cond, length, true, not};
-ghost use Rattle.std.specs.Str.{bytes_eq};
+ghost use Rattle.std.specs.Prelude.{◌≡◌, ◌≢◌, [], ◌∷◌, IfOk, map, length, set};
 ghost use Rattle.std.specs.List.{AllByRecursion};
-ghost use Rattle.hys_number.specs.Number.{Number};
 ghost use Rattle.hys_number.specs.Ops.{whole};
 ghost use Rattle.hys_ast.specs.Seen.{tree_of};
 ghost use Rattle.hys_ast.specs.Tree as tree;
-ghost use Rattle.hys_meaning.specs.Values.{literal};
-ghost use Rattle.hys_meaning.specs.Names.{look, is_parameter};
-ghost use Rattle.hys_meaning.specs.Forms.{number_form, unit_form, parameter_or};
+ghost use Rattle.hys_meaning.specs.Names.{look};
+ghost use Rattle.hys_meaning.specs.Forms.{number_form, unit_form};
 ghost use Rattle.hys_meaning.specs.Folding.{is_zero};
 ghost use Rattle.hys_lin.specs.declared.lost.Op.TheVariants as operation;
 ghost use Rattle.hys_type.specs.Sorts.{Bool', takes_unary};
@@ -17,14 +14,13 @@ ghost use Rattle.hys_type.specs.Faults.{check, in_range, Answers};
 ghost use Rattle.hys_type.specs.Constants.{IsLiteral, HasLiterals};
 ghost use Rattle.hys_type.specs.Nodes.{name_checks, may_stand, may_be_cast, node_checks, takes_binary};
 ghost use Rattle.hys_type.specs.Dense.{IsDense, folded_by, folded_form, spread};
-ghost use Rattle.hys_ast.specs.declared.tree.BinaryOp.TheVariants as binary;
-ghost use Rattle.hys_type.specs.Operands.{seen, IsNode, AreAlike, linear, node_sort, negated, signed_node, has_none, multiplied, product, real_checks, combined_node, joined_checks, joined_node};
+ghost use Rattle.hys_type.specs.Operands.{seen, own_form, IsNode, AreAlike, node_sort, negated, signed_node, has_none, product_checks, product, quotient_checks, real_checks, combined_node, joined_checks, joined_node};
 ghost use Rattle.hys_type.specs.declared.fault.TypeFault.TheVariants as fault;
 ghost use Rattle.hys_type.specs.declared.node.Node.TheVariants as node;
 
 use crate::dense::{Dense, fold, is_constant, spread};
 use crate::fault::TypeFault;
-use crate::scope::{Declared, is_output, is_parameter, look};
+use crate::scope::{Declared, Scope, is_output, is_parameter, look, place_in};
 use hys_ast::{BinaryOp, Expr, Kind, Place, UnaryOp};
 use hys_base::{List, Text};
 use hys_frac::Frac;
@@ -43,38 +39,32 @@ pub enum Node {
 }
 
 // The form of a number alone.
-fn number_form(alloc: Global, scope: &[Declared], number: Frac) -> Result<Dense, AllocError>
+#[tactic(auto, using(crate::proofs::Places::each_number))]
+fn number_form(alloc: Global, scope: &Scope, number: Frac) -> Result<Dense, AllocError>
     ensures { IfOk result (λ d. IsDense (map seen scope.now) (number_form number) d) }
 {
-    let mut factors = Vec::with_capacity(alloc, scope.len())?;
-    for _ in scope {
-        factors.push(Frac::whole(0))?;
-    }
     Ok(Dense {
-        factors: List::of(factors),
+        factors: List::of(Vec::from_elem(alloc, Frac::whole(0), scope.len())?),
         constant: number,
     })
 }
 
-#[inline(always)]
-fn unit_factor(name: &Text, declared: &Declared) -> Frac
-    ensures { result ≡ cond (bytes_eq name.now declared.now.text) (whole 1) (whole 0) }
+// Sets the factor at a place to 1; beyond the others there is none.
+fn set_one(factors: &mut Vec<Frac>, at: usize)
+    ensures { factors.new.items ≡ set factors.old.items at (whole 1) }
 {
-    if *name == declared.text {
-        Frac::whole(1)
-    } else {
-        Frac::whole(0)
+    if at < factors.len() {
+        factors[at] = Frac::whole(1);
     }
 }
 
 // The form of a name alone.
-fn unit_form(alloc: Global, scope: &[Declared], name: &Text) -> Result<Dense, AllocError>
+#[tactic(auto, using(crate::proofs::Places::one_number))]
+fn unit_form(alloc: Global, scope: &Scope, name: &Text) -> Result<Dense, AllocError>
     ensures { IfOk result (λ d. IsDense (map seen scope.now) (unit_form name.now) d) }
 {
-    let mut factors = Vec::with_capacity(alloc, scope.len())?;
-    for declared in scope {
-        factors.push(unit_factor(name, declared))?;
-    }
+    let mut factors = Vec::from_elem(alloc, Frac::whole(0), scope.len())?;
+    set_one(&mut factors, place_in(scope, name));
     Ok(Dense {
         factors: List::of(factors),
         constant: Frac::whole(0),
@@ -84,12 +74,11 @@ fn unit_form(alloc: Global, scope: &[Declared], name: &Text) -> Result<Dense, Al
 // The form of a declared name: that of its value where it is a parameter.
 fn declared_form(
     alloc: Global,
-    scope: &[Declared],
+    scope: &Scope,
     name: &Text,
     found: &Declared,
 ) -> Result<Dense, AllocError>
-    ensures { IfOk result (λ d.
-        IsDense (map seen scope.now) (parameter_or name.now found.now.value (is_parameter found.now.section)) d) }
+    ensures { IfOk result (λ d. IsDense (map seen scope.now) (own_form name.now found.now) d) }
 {
     if is_parameter(found.section) {
         number_form(alloc, scope, found.value)
@@ -98,12 +87,7 @@ fn declared_form(
     }
 }
 
-fn literal(
-    alloc: Global,
-    scope: &[Declared],
-    digits: &Text,
-    place: Place,
-) -> Result<Node, TypeFault>
+fn literal(alloc: Global, scope: &Scope, digits: &Text, place: Place) -> Result<Node, TypeFault>
     requires { IsLiteral digits.now }
     ensures fault { Answers result (node_checks (map seen scope.now) (tree.Number digits.now place)) }
     ensures node { IfOk result (λ n. IsNode (map seen scope.now) (tree.Number digits.now place) n) }
@@ -114,7 +98,7 @@ fn literal(
     }
 }
 
-fn named(alloc: Global, scope: &[Declared], name: &Text, place: Place) -> Result<Node, TypeFault>
+fn named(alloc: Global, scope: &Scope, name: &Text, place: Place) -> Result<Node, TypeFault>
     ensures fault { Answers result (name_checks may_stand (look (map seen scope.now) name.now) place) }
     ensures node { IfOk result (λ n. IsNode (map seen scope.now) (tree.Name name.now place) n) }
 {
@@ -132,7 +116,7 @@ fn named(alloc: Global, scope: &[Declared], name: &Text, place: Place) -> Result
     }
 }
 
-fn cast(alloc: Global, scope: &[Declared], name: &Text, place: Place) -> Result<Node, TypeFault>
+fn cast(alloc: Global, scope: &Scope, name: &Text, place: Place) -> Result<Node, TypeFault>
     ensures fault { Answers result (name_checks may_be_cast (look (map seen scope.now) name.now) place) }
     ensures node { IfOk result (λ n. IsNode (map seen scope.now) (tree.Cast name.now place) n) }
 {
@@ -201,8 +185,7 @@ pub fn folded(op: Op, left: Dense, right: &Dense, place: Place) -> Result<Dense,
 #[tactic(auto, using(crate::proofs::Operands::spread_length))]
 fn product(alloc: Global, left: Dense, right: &Dense, place: Place) -> Result<Node, TypeFault>
     requires same { length left.factors ≡ length right.now.factors }
-    ensures fault { Answers result (linear binary.Mul left right.now place
-        ++ in_range place (multiplied (has_none left) left right.now)) }
+    ensures fault { Answers result (product_checks left right.now place) }
     ensures node { IfOk result (λ n. n ≡ node.Real (product (has_none left) left right.now)) }
 {
     if is_constant(&left) {
@@ -228,8 +211,7 @@ fn is_zero(number: Frac) -> bool
 #[tactic(auto, using(crate::proofs::Operands::spread_length, crate::proofs::Operands::not_zero, crate::proofs::Operands::each_divisor))]
 fn quotient(alloc: Global, left: Dense, right: &Dense, place: Place) -> Result<Node, TypeFault>
     requires same { length left.factors ≡ length right.now.factors }
-    ensures fault { Answers result (linear binary.Div left right.now place
-        ++ in_range place (folded_by operation.Div left (spread right.now))) }
+    ensures fault { Answers result (quotient_checks left right.now place) }
     ensures node { IfOk result (λ n. n ≡ node.Real (folded_form operation.Div left (spread right.now))) }
 {
     if !is_constant(right) {
@@ -321,7 +303,7 @@ fn joined(
 
 /// What an expression of an item is, or the fault of the first of its nodes that has one.
 #[tactic(auto, using(crate::proofs::Operators::signed_is, crate::proofs::Operators::are_alike, crate::proofs::Operators::joined_is))]
-pub fn read(alloc: Global, scope: &[Declared], whole: &Expr) -> Result<Node, TypeFault>
+pub fn read(alloc: Global, scope: &Scope, whole: &Expr) -> Result<Node, TypeFault>
     requires { HasLiterals (tree_of whole.now) }
     ensures fault { Answers result (node_checks (map seen scope.now) (tree_of whole.now)) }
     ensures node { IfOk result (λ n. IsNode (map seen scope.now) (tree_of whole.now) n) }

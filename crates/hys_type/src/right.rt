@@ -11,7 +11,7 @@ ghost use Rattle.hys_type.specs.Sorts.{is_bool, is_real};
 ghost use Rattle.hys_type.specs.Faults.{Answers, first_fault, check};
 ghost use Rattle.hys_type.specs.Constants.{HasLiterals, known_values};
 ghost use Rattle.hys_type.specs.Dense.{IsDense};
-ghost use Rattle.hys_type.specs.Checks.{expression, of_kind, demanded, has_top, is_less, tolerance_checks};
+ghost use Rattle.hys_type.specs.Checks.{expression, of_kind, demanded, has_top, is_less, above_zero_checks, tolerance_checks};
 ghost use Rattle.std.specs.Result.{result_err};
 ghost use Rattle.hys_number.specs.Ops.{whole};
 ghost use Rattle.hys_frac.specs.Compare.{number_cmp};
@@ -24,7 +24,7 @@ use crate::dense::Dense;
 use crate::fault::TypeFault;
 use crate::kinds::{evaluate_as, place_of};
 use crate::node::{Node, read};
-use crate::scope::Declared;
+use crate::scope::Scope;
 use hys_ast::{BinaryOp, Expr, Kind, Place};
 use hys_frac::Frac;
 use std::alloc::Global;
@@ -44,7 +44,7 @@ fn form_of(found: Node, place: Place) -> Result<Dense, TypeFault>
 /// The form of a real expression, or the fault of the first of its nodes that has one, or of the
 /// whole where it isn't real.
 #[tactic(auto, using(crate::proofs::Rights::nodes_first, crate::proofs::Rights::top_last, crate::proofs::Rights::real_form))]
-pub fn read_real(alloc: Global, scope: &[Declared], whole: &Expr) -> Result<Dense, TypeFault>
+pub fn read_real(alloc: Global, scope: &Scope, whole: &Expr) -> Result<Dense, TypeFault>
     requires { HasLiterals (tree_of whole.now) }
     ensures fault { Answers result (of_kind kind.Real (map seen scope.now) (tree_of whole.now)) }
     ensures form { IfOk result (λ d. IsDense (map seen scope.now) (form (map seen scope.now) (tree_of whole.now)) d) }
@@ -72,7 +72,7 @@ fn is_formula(found: &Node) -> bool
 
 /// The fault of a formula: of the first of its nodes that has one, or of the whole where it is none.
 #[tactic(auto, using(crate::proofs::Rights::nodes_first, crate::proofs::Rights::top_last))]
-pub fn check_formula(alloc: Global, scope: &[Declared], whole: &Expr) -> Result<(), TypeFault>
+pub fn check_formula(alloc: Global, scope: &Scope, whole: &Expr) -> Result<(), TypeFault>
     requires { HasLiterals (tree_of whole.now) }
     ensures { Answers result (of_kind kind.Bool (map seen scope.now) (tree_of whole.now)) }
 {
@@ -122,7 +122,7 @@ pub fn compares(whole: &Expr) -> bool
 
 /// The fault of a guard's comparison.
 #[tactic(auto, using(crate::proofs::Rights::nodes_first, crate::proofs::Rights::top_last))]
-pub fn check_guard(alloc: Global, scope: &[Declared], whole: &Expr) -> Result<(), TypeFault>
+pub fn check_guard(alloc: Global, scope: &Scope, whole: &Expr) -> Result<(), TypeFault>
     requires { HasLiterals (tree_of whole.now) }
     ensures { Answers result (expression (map seen scope.now) (has_top is_inequality) (tree_of whole.now)) }
 {
@@ -141,7 +141,7 @@ fn may_be_demanded(found: &Node, whole: &Expr) -> bool
 
 /// The fault of what a MUST item demands: a formula or a comparison.
 #[tactic(auto, using(crate::proofs::Rights::nodes_first, crate::proofs::Rights::top_last))]
-pub fn check_demand(alloc: Global, scope: &[Declared], whole: &Expr) -> Result<(), TypeFault>
+pub fn check_demand(alloc: Global, scope: &Scope, whole: &Expr) -> Result<(), TypeFault>
     requires { HasLiterals (tree_of whole.now) }
     ensures { Answers result (expression (map seen scope.now) (demanded (map seen scope.now)) (tree_of whole.now)) }
 {
@@ -156,8 +156,7 @@ fn is_above_zero(number: Frac) -> bool
 }
 
 fn positive(tolerance: Frac, place: Place) -> Result<Frac, TypeFault>
-    ensures fault { result_err result ≡
-        first_fault (check (is_less (number_cmp (whole 0) tolerance)) (fault.Tolerance place tolerance) ∷ []) }
+    ensures fault { result_err result ≡ first_fault (above_zero_checks tolerance place) }
     ensures number { IfOk result (λ n. n ≡ tolerance) }
 {
     if is_above_zero(tolerance) {

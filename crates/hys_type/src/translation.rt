@@ -1,30 +1,28 @@
 //! From a source to its program.
 
-ghost use Rattle.std.specs.Prelude.{◌≡◌, ◌≤◌, ◌<◌, ◌^◌, ◌+◌, ◌-◌, ◌++◌, [], length, map, IfOk};
-ghost use Rattle.std.specs.List.{AllByRecursion, sum_by};
+ghost use Rattle.std.specs.Prelude.{◌≡◌, ◌≤◌, ◌<◌, ◌^◌, length, map, IfOk};
+ghost use Rattle.std.specs.List.{AllByRecursion};
 ghost use Rattle.hys_number.specs.Ops.{◌<ₙ◌, whole};
-ghost use Rattle.hys_ast.specs.Seen.{decl_of, item_of, source_of};
+ghost use Rattle.hys_ast.specs.Seen.{item_of, source_of};
 ghost use Rattle.hys_type.specs.Faults.{Answers, IsOneOrOther};
-ghost use Rattle.hys_meaning.specs.Names.{parameters};
 ghost use Rattle.hys_meaning.specs.Unfolded.{unfolded};
-ghost use Rattle.hys_meaning.specs.Weight.{item_weight, weight};
-ghost use Rattle.hys_prog.specs.Programs.{IsProgram, names_weight};
+ghost use Rattle.hys_meaning.specs.Weight.{weight};
+ghost use Rattle.hys_prog.specs.Programs.{IsProgram};
 ghost use Rattle.hys_type.specs.Declaring.{IsDeclaration};
 ghost use Rattle.hys_type.specs.DeclarationKeeping.{IsReadSource};
-ghost use Rattle.hys_type.specs.Made.{AreDeclaredFirst, AreNamesOf};
-ghost use Rattle.hys_type.specs.Added.{IsAdded, AreAdded, lists};
-ghost use Rattle.hys_type.specs.Built.{setting_of};
+ghost use Rattle.hys_type.specs.Made.{AreNamesFirst, AreNamesOf};
+ghost use Rattle.hys_type.specs.Added.{IsPut, ArePut, IsAssembled, weight_from};
 ghost use Rattle.hys_type.specs.Operands.{seen};
 ghost use Rattle.hys_type.specs.Translation.{place_if, IsTranslation};
-ghost use Rattle.hys_type.specs.Guarding.{name_of_guard, names_of_guards, items_of_guards};
+ghost use Rattle.hys_type.specs.Guarding.{name_of_guard, put_guard_names, put_guard_items};
 ghost use Rattle.hys_type.specs.Checks.{checks, fault_of, HasItemLiterals, HasSourceLiterals};
 
 use crate::body::body_of;
-use crate::built::{Guard, column_at, place_in};
+use crate::built::{Guard, column_at};
 use crate::constant::Known;
 use crate::fault::TypeFault;
 use crate::judge::{Judged, judge_parts};
-use crate::scope::Declared;
+use crate::scope::{Scope, place_in};
 use crate::weight::weigh;
 use hys_ast::{Item, Kind, Place, Source};
 use hys_base::{List, Text};
@@ -61,10 +59,9 @@ fn push_guards(
     guards: Vec<Guard>,
 ) -> Result<(), TypeFault>
     requires { declared ≤ length names.old.items }
-    ensures names { IfOk result (λ _. names.new.items
-        ≡ names.old.items ++ names_of_guards (length names.old.items - declared + 1) guards.items) }
-    ensures items { IfOk result (λ _. items.new.items
-        ≡ items.old.items ++ items_of_guards (length names.old.items) eps guards.items) }
+    ensures names { IfOk result (λ _. names.new.items ≡ put_guard_names declared names.old.items guards.items) }
+    ensures items { IfOk result (λ _.
+        items.new.items ≡ put_guard_items names.old.items eps items.old.items guards.items) }
 {
     for guard in guards {
         items.push(ProgItem {
@@ -82,7 +79,7 @@ fn push_guards(
 }
 
 // The place of the left name.
-fn left_place(scope: &[Declared], left: &Option<Text>) -> Result<Option<NameId>, TypeFault>
+fn left_place(scope: &Scope, left: &Option<Text>) -> Result<Option<NameId>, TypeFault>
     ensures { IfOk result (λ k. k ≡ place_if (map seen scope.now) left.now) }
 {
     match left {
@@ -95,7 +92,7 @@ fn left_place(scope: &[Declared], left: &Option<Text>) -> Result<Option<NameId>,
 #[tactic(auto, using(crate::proofs::Additions::item_added))]
 fn push_item(
     alloc: Global,
-    scope: &[Declared],
+    scope: &Scope,
     known: &[Known],
     eps: Frac,
     names: &mut Vec<Name>,
@@ -104,8 +101,8 @@ fn push_item(
 ) -> Result<(), TypeFault>
     requires literals { HasItemLiterals (item_of item.now) }
     requires names { length scope.now ≤ length names.old.items }
-    ensures { IfOk result (λ _. IsAdded (setting_of (map seen scope.now) known.now eps) (item_of item.now)
-        (lists names.old.items items.old.items) (lists names.new.items items.new.items)) }
+    ensures { IfOk result (λ _.
+        IsPut scope.now known.now eps item.now names.old items.old names.new items.new) }
 {
     let mut guards = Vec::new(alloc);
     let body = body_of(alloc, scope, known, eps, names.len(), &mut guards, item)?;
@@ -121,7 +118,7 @@ fn push_item(
 #[tactic(auto, using(crate::proofs::Additions::added_here, crate::proofs::Additions::added_end, crate::proofs::Additions::still_enough))]
 fn program_items(
     alloc: Global,
-    scope: &[Declared],
+    scope: &Scope,
     known: &[Known],
     eps: Frac,
     names: &mut Vec<Name>,
@@ -129,8 +126,7 @@ fn program_items(
 ) -> Result<Vec<ProgItem>, TypeFault>
     requires literals { AllByRecursion HasItemLiterals (map item_of items.now) }
     requires names { length scope.now ≤ length names.old.items }
-    ensures { IfOk result (λ is. AreAdded (setting_of (map seen scope.now) known.now eps) (map item_of items.now)
-        (lists names.old.items []) (lists names.new.items is.items)) }
+    ensures { IfOk result (ArePut scope.now known.now eps items.now names.old names.new) }
 {
     let mut made = Vec::new(alloc);
     for item in items {
@@ -141,12 +137,10 @@ fn program_items(
 
 fn assemble(alloc: Global, source: &Source, eps: Frac, judged: Judged) -> Result<Program, TypeFault>
     requires literals { AllByRecursion HasItemLiterals (map item_of source.now.items) }
-    requires names { length judged.scope.items ≤ length judged.names.items }
+    requires names { length judged.scope ≤ length judged.names.items }
     ensures system { IfOk result (λ p. p.system ≡ source.now.system) }
-    ensures items { IfOk result (λ p. AreAdded (setting_of (map seen judged.scope.items) judged.known.items eps)
-        (map item_of source.now.items) (lists judged.names.items []) (lists p.names p.items)) }
-    ensures weight { IfOk result (λ p.
-        p.weight ≡ names_weight p.names + sum_by item_weight (map item_of source.now.items)) }
+    ensures items { IfOk result (IsAssembled judged eps source.now.items) }
+    ensures weight { IfOk result (λ p. p.weight ≡ weight_from p.names source.now.items) }
     ensures few { IfOk result (λ p. length p.names < 2 ^ 63) }
 {
     let Judged {
@@ -164,9 +158,10 @@ fn assemble(alloc: Global, source: &Source, eps: Frac, judged: Judged) -> Result
     })
 }
 
-/// The program of a source where no check fails, and else the fault of the first that does. Its names are those of the declarations, and
-/// behind them those of the unnamed guards in the order of their numbers. The program is the translation of the source,
-/// and keeps the rules of programs where the source is one that is read from a text.
+/// The program of a source where no check fails, and else the fault of the first that does. Its
+/// names are those of the declarations, and behind them those of the unnamed guards in the order of
+/// their numbers. The program is the translation of the source, and keeps the rules of programs
+/// where the source is one that is read from a text.
 #[tactic(auto, using(crate::proofs::OneOrOther::one_or_other))]
 pub fn program(alloc: Global, source: &Source, eps: Frac) -> Result<Program, TypeFault>
     requires eps { whole 0 <ₙ eps }
@@ -175,11 +170,9 @@ pub fn program(alloc: Global, source: &Source, eps: Frac) -> Result<Program, Typ
     ensures fault { Answers result (checks (source_of source.now)) }
     ensures one_or_other { IsOneOrOther (fault_of (source_of source.now)) result }
     ensures system { IfOk result (λ p. p.system ≡ source.now.system) }
-    ensures weight { IfOk result (λ p.
-        p.weight ≡ names_weight p.names + sum_by item_weight (map item_of source.now.items)) }
+    ensures weight { IfOk result (λ p. p.weight ≡ weight_from p.names source.now.items) }
     ensures source_weight { IfOk result (λ p. p.weight ≡ weight (source_of source.now)) }
-    ensures names { IfOk result (λ p. AreDeclaredFirst (parameters (map decl_of source.now.decls))
-        (map decl_of source.now.decls) p.names) }
+    ensures names { IfOk result (λ p. AreNamesFirst (source_of source.now) p.names) }
     ensures all_names { IfOk result (λ p. AreNamesOf (unfolded (source_of source.now)) p.names) }
     ensures translation { IfOk result (λ p. IsTranslation eps (source_of source.now) p) }
     ensures program { IfOk result (λ p. IsReadSource (source_of source.now) → IsProgram p) }

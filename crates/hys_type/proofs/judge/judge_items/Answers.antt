@@ -15,7 +15,7 @@ returns-in_err-check_items-clause-fault c =
     let is = map item_of c.args.items.now in
     let xs = walk (item_checks (scope_by ds)) [] is in
     let ys = walk (λ before d. missing_checks is d) [] ds in
-    let e = same_items ds is c.args.known.now (map seen c.deref.result.now) c.requires.once c.requires.known (ap (map seen) (c.deref.ensures.value ∙ c.in_ok-scope.ensures)) in
+    let e = same_items ds is c.args.known.now (map seen c.in_ok-scope.scope) c.requires.once c.requires.known (ap (map seen) c.in_ok-scope.ensures) in
     handed c.from_residual-in_err-check_items.result _ (xs ++ ys) c.from_residual-in_err-check_items.ensures (fault_first xs ys _ (λ n. c.in_err-check_items.ensures n ∙ ap first_fault e))
 
 pub returns-in_err-check_all_defined-clause-fault : goal.returns-in_err-check_all_defined-clause-fault
@@ -24,7 +24,7 @@ returns-in_err-check_all_defined-clause-fault c =
     let is = map item_of c.args.items.now in
     let xs = walk (item_checks (scope_by ds)) [] is in
     let ys = walk (λ before d. missing_checks is d) [] ds in
-    let e = same_items ds is c.args.known.now (map seen c.deref.result.now) c.requires.once c.requires.known (ap (map seen) (c.deref.ensures.value ∙ c.in_ok-scope.ensures)) in
+    let e = same_items ds is c.args.known.now (map seen c.in_ok-scope.scope) c.requires.once c.requires.known (ap (map seen) c.in_ok-scope.ensures) in
     handed c.from_residual-in_err-check_all_defined.result _ (xs ++ ys) c.from_residual-in_err-check_all_defined.ensures (fault_behind xs ys _ (c.in_ok-check_items.ensures ∙ ap first_fault e) c.in_err-check_all_defined.ensures)
 
 pub returns-clause-fault : goal.returns-clause-fault
@@ -33,5 +33,5 @@ returns-clause-fault c =
     let is = map item_of c.args.items.now in
     let xs = walk (item_checks (scope_by ds)) [] is in
     let ys = walk (λ before d. missing_checks is d) [] ds in
-    let e = same_items ds is c.args.known.now (map seen c.deref.result.now) c.requires.once c.requires.known (ap (map seen) (c.deref.ensures.value ∙ c.in_ok-scope.ensures)) in
+    let e = same_items ds is c.args.known.now (map seen c.in_ok-scope.scope) c.requires.once c.requires.known (ap (map seen) c.in_ok-scope.ensures) in
     c.in_ok-check_all_defined.ensures ∙ sym (fault_after xs ys (c.in_ok-check_items.ensures ∙ ap first_fault e))

@@ -46,7 +46,7 @@ pub returns-in-Ok-clause-all_names : goal.returns-in-Ok-clause-all_names
 returns-in-Ok-clause-all_names c =
     let e = ap₂ (λ (ds : List Decl) (is : List Item). first_fault (checks_by (map decl_of ds) (map item_of is))) c.items.ensures c.items-2.ensures in
     let ks = c.in_ok-judged.judged.known.items in
-    whole_named (map decl_of c.args.source.now.decls) (map item_of c.args.source.now.items) ks c.in_ok-judged.judged.scope.items c.args.eps c.in_ok-judged.judged.names.items c.in-Ok.program.names c.in-Ok.program.items []
+    whole_named (map decl_of c.args.source.now.decls) (map item_of c.args.source.now.items) ks c.in_ok-judged.judged.scope c.args.eps c.in_ok-judged.judged.names.items c.in-Ok.program.names c.in-Ok.program.items []
     (c.in_ok-judged.ensures.fault ∙ e)
     (c.in_ok-judged.ensures.known ∙ ap (λ (ds : List Decl). known (map decl_of ds) (map decl_of ds)) c.items.ensures)
     (c.in_ok-judged.ensures.names ∙ ap (λ (ds : List Decl). map (program_name ks) (map decl_of ds)) c.items.ensures)
@@ -65,7 +65,7 @@ returns-in-Ok-clause-translation c =
     record {
       system = c.in-Ok.ensures.system;
       names = returns-in-Ok-clause-all_names c;
-      items = whole_made s ks c.in_ok-judged.judged.scope.items c.args.eps c.in_ok-judged.judged.names.items c.in-Ok.program.names c.in-Ok.program.items
+      items = whole_made s ks c.in_ok-judged.judged.scope c.args.eps c.in_ok-judged.judged.names.items c.in-Ok.program.names c.in-Ok.program.items
           (c.in_ok-judged.ensures.fault ∙ e) c.requires.declarations (few_guards s c.in-Ok.program.names (returns-in-Ok-clause-all_names c) c.in-Ok.ensures.few)
           (c.in_ok-judged.ensures.known ∙ ap (λ (ds : List Decl). known (map decl_of ds) (map decl_of ds)) c.items.ensures)
           (c.in_ok-judged.ensures.names ∙ ap (λ (ds : List Decl). map (program_name ks) (map decl_of ds)) c.items.ensures)
