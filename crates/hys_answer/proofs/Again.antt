@@ -24,7 +24,8 @@ use Rattle.hys_relax.specs.declared.multipliers.Multipliers.{Multipliers}
 use Rattle.hys_tree.specs.Multiplied.{IsMultiplied, AreMultiplied}
 use Rattle.hys_tree.specs.declared.tree.TreePlace.{TreePlace}
 use Rattle.hys_tree.specs.declared.tree.TreePlace.TheVariants.{Inner, Cost, Never}
-use Rattle.hys_answer.specs.Shown.{fraction_data, whole_data, pair_data, pairs_data, place_data, point_data, cell_data, path_data}
+use Rattle.hys_json.specs.Shown.{fraction_data}
+use Rattle.hys_answer.specs.Shown.{whole_data, pair_data, pairs_data, place_data, point_data, cell_data, path_data}
 use Rattle.hys_answer.specs.Fitting.{IsWhole, NumberFits, PairFits, CellFits, PlaceFits}
 use Rattle.hys_answer.specs.Reading.{has_form, number_asked, after_number, point_in, point_checks, cell_in, cell_checks, cell_asked, after_cell, path_in, path_checks, pair_in, pair_asked, after_pair, is_counted, multipliers_in, multipliers_checks, inner_checks, cost_checks, never_checks, place_in, place_checks, place_asked, after_place}
 

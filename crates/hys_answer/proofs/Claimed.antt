@@ -21,7 +21,8 @@ use Rattle.hys_tree.specs.declared.answer.Claim.TheVariants.{Least, NoneExists, 
 use Rattle.hys_tree.specs.declared.answer.Why.{Why}
 use Rattle.hys_tree.specs.declared.answer.Why.TheVariants.{Spent, Range}
 use Rattle.hys_tree.specs.declared.tree.TreePlace.{TreePlace}
-use Rattle.hys_answer.specs.Shown.{fraction_data, whole_data, list_data, place_data, point_data, best_data, cell_data, path_data, at_data, why_data, claim_data, answer_data}
+use Rattle.hys_json.specs.Shown.{fraction_data}
+use Rattle.hys_answer.specs.Shown.{whole_data, list_data, place_data, point_data, best_data, cell_data, path_data, at_data, why_data, claim_data, answer_data}
 use Rattle.hys_answer.specs.Fitting.{IsWhole, PlaceFits, BestFits, AnyBestFits, AtFits, WhyFits, ClaimFits, AnswerFits}
 use Rattle.hys_answer.specs.Reading.{has_form, kind_checks, cell_checks, table_cell, table_cell_checks, table_value_checks, at_in, at_checks, point_checks, path_checks, spent_keys, spent_checks, range_keys, range_checks, why_in, why_parts, why_checks, best_keys, least_keys, none_keys, solution_in, solution_checks, best_in, best_checks, bound_keys, bound_checks, claim_in, claim_parts, claim_checks, place_in, place_asked, after_place, tree_in, tree_checks, answer_keys, version_checks, front_checks, back_checks, answer_checks, answer_in}
 use Rattle.hys_answer.specs.Texts.{unexpanded, StandsFor}

@@ -12,7 +12,8 @@ use Rattle.hys_tree.specs.declared.answer.Why.{Why}
 use Rattle.hys_tree.specs.declared.answer.Why.TheVariants.{Spent, Range}
 use Rattle.hys_tree.specs.declared.tree.TreePlace.{TreePlace}
 use Rattle.hys_tree.specs.declared.tree.TreePlace.TheVariants.{Inner, Cost, Never}
-use Rattle.hys_answer.specs.Shown.{fraction_data, pair_data, place_data, best_data, cell_data, at_data, why_data, claim_data, answer_data}
+use Rattle.hys_json.specs.Shown.{fraction_data}
+use Rattle.hys_answer.specs.Shown.{pair_data, place_data, best_data, cell_data, at_data, why_data, claim_data, answer_data}
 
 pairs : (ps : List (ℕ × Number)) → items_depth (items_of (map pair_data ps)) ≤ 1
 pairs [] = omega arith

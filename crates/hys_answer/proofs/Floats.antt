@@ -1,5 +1,5 @@
 -- The text of an answer has no float.
-use Rattle.std.proofs.Common.{◌≡◌, ◌||◌, ℕ, List, [], ◌∷◌, map, false, refl, Option, Some, None}
+use Rattle.std.proofs.Common.{◌≡◌, ℕ, List, [], ◌∷◌, map, false, refl, Option, Some, None}
 use Rattle.serde_json.specs.View.{items_of}
 use Rattle.serde_json.specs.Written.{has_float, items_have_float}
 use Rattle.hys_number.specs.Number.{Number}
@@ -12,7 +12,8 @@ use Rattle.hys_tree.specs.declared.answer.Why.{Why}
 use Rattle.hys_tree.specs.declared.answer.Why.TheVariants.{Spent, Range}
 use Rattle.hys_tree.specs.declared.tree.TreePlace.{TreePlace}
 use Rattle.hys_tree.specs.declared.tree.TreePlace.TheVariants.{Inner, Cost, Never}
-use Rattle.hys_answer.specs.Shown.{fraction_data, pair_data, place_data, best_data, cell_data, at_data, why_data, claim_data, answer_data}
+use Rattle.hys_json.specs.Shown.{fraction_data}
+use Rattle.hys_answer.specs.Shown.{pair_data, place_data, best_data, cell_data, at_data, why_data, claim_data}
 
 pairs : (ps : List (ℕ × Number)) → items_have_float (items_of (map pair_data ps)) ≡ false
 pairs [] = refl
@@ -26,11 +27,11 @@ cells : (cs : List (ℕ × ℕ)) → items_have_float (items_of (map cell_data c
 cells [] = refl
 cells (c ∷ cs) = cells cs
 
-places : (ts : List TreePlace) → items_have_float (items_of (map place_data ts)) ≡ false
-places [] = refl
-places (Inner c ∷ ts) = places ts
-places (Cost m k ∷ ts) = rw (pairs m.pairs) (places ts)
-places (Never m k ∷ ts) = rw (pairs m.pairs) (places ts)
+pub no_place_float : (ts : List TreePlace) → items_have_float (items_of (map place_data ts)) ≡ false
+no_place_float [] = refl
+no_place_float (Inner c ∷ ts) = no_place_float ts
+no_place_float (Cost m k ∷ ts) = rw (pairs m.pairs) (no_place_float ts)
+no_place_float (Never m k ∷ ts) = rw (pairs m.pairs) (no_place_float ts)
 
 bests : (b : Option Best) → has_float (best_data b) ≡ false
 bests None = refl
@@ -45,10 +46,7 @@ whys : (w : Why) → has_float (why_data w) ≡ false
 whys (Spent n) = refl
 whys (Range node at) = rw (ats at.at, cells at.path) refl
 
-claims : (c : Claim) → has_float (claim_data c) ≡ false
-claims (Least b) = rw (numbers b.point.values) refl
-claims NoneExists = refl
-claims (AtLeast bound best why) = rw (bests best, whys why) refl
-
-pub no_float : (c : Claim) (ts : List TreePlace) → has_float (answer_data c ts) ≡ false
-no_float c ts = rw (claims c, places ts) refl
+pub no_claim_float : (c : Claim) → has_float (claim_data c) ≡ false
+no_claim_float (Least b) = rw (numbers b.point.values) refl
+no_claim_float NoneExists = refl
+no_claim_float (AtLeast bound best why) = rw (bests best, whys why) refl

@@ -4,6 +4,9 @@
 -- - A form that keys or a kind choose is a `cond` of opaque lists of checks: each branch of the reader is one call, and the
 --   function that chooses has no proof file.
 -- - Four long keys and three more pieces in one function are too much for the search: the keys have a function of their own.
+-- - Plain: the value of an answer whose numbers fit is one whose text reads as it again (hys_json). So a text is the
+--   answer's as soon as it is what is written for the answer, however the answer was found: `guess` promises nothing, and
+--   `read_written` compares.
 pub mod Floats
 pub mod Shapes
 pub mod Multiplied
@@ -13,3 +16,4 @@ pub mod Again
 pub mod Claimed
 pub mod Depths
 pub mod Written
+pub mod Plain

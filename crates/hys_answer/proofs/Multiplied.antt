@@ -1,5 +1,6 @@
 -- In the tree of a value in which nothing is wrong rows rise, and no multiplier is 0.
-use Rattle.std.proofs.Common.{◌≡◌, ℕ, suc, ◌+◌, ◌<◌, ◌≤◌, List, [], ◌∷◌, ◌++◌, Bool, true, false, not, cond, None, Result, Ok, Err, IfOk, map, codes, nat_le, refl, sym, subst, arith, tests}
+use Rattle.std.proofs.Common.{◌≡◌, ℕ, suc, ◌+◌, ◌<◌, ◌≤◌, List, [], ◌∷◌, ◌++◌, Bool, true, false, not, cond, None, Result, Ok, Err, IfOk, map, length, get_or, drop, codes, nat_le, refl, sym, ◌∙◌, ap, subst, arith, tests}
+use Rattle.std.proofs.lemmas.List.{drop_more}
 use Rattle.std.specs.List.{filter}
 use Rattle.std.specs.Ordering.{MatchOrdering}
 use Rattle.std.specs.declared.cmp.Ordering.{Ordering}
@@ -42,12 +43,12 @@ row_starts least d h =
     let three = both_pass (under second (fraction_checks (item_in 1 d))) place two.1 in
     is_at_most least (whole_in (item_in 0 d)) (passes_only (nat_le least (whole_in (item_in 0 d))) three.1)
 
-record AreNext (least : ℕ) (ps : List (ℕ × Number)) : Type 0 where
-  starts : EachColumn (λ c. least ≤ c) (weights ps)
-  rise : AreTerms (weights ps)
+pub record AreNext (least : ℕ) (ps : List (ℕ × Number)) : Type 0 where
+  pub starts : EachColumn (λ c. least ≤ c) (weights ps)
+  pub rise : AreTerms (weights ps)
 
 -- one more pair, which counts or not
-more_pairs : (least : ℕ) (p : ℕ × Number) (ps : List (ℕ × Number)) (b : Bool) → is_counted p ≡ b → least ≤ p.0 → AreNext (p.0 + 1) ps →
+pub more_pairs : (least : ℕ) (p : ℕ × Number) (ps : List (ℕ × Number)) (b : Bool) → is_counted p ≡ b → least ≤ p.0 → AreNext (p.0 + 1) ps →
     AreNext least (cond b (p ∷ ps) ps)
 more_pairs least p ps true e l h = record {
   starts = (l, each_more (λ c. p.0 + 1 ≤ c) (λ c. least ≤ c) (weights ps) (λ c k. omega arith) h.starts);
@@ -65,6 +66,13 @@ pairs_next k least (d ∷ ds) h =
     let p = each_passes pair_asked after_pair k (record { least = least }) d ds h in
     let rest : AreNext (whole_in (item_in 0 d) + 1) (filter is_counted (map pair_in ds)) = pairs_next (suc k) (whole_in (item_in 0 d) + 1) ds p.1 in
     more_pairs least (pair_in d) (filter is_counted (map pair_in ds)) (is_counted (pair_in d)) refl (row_starts least d p.0) rest
+
+-- one more pair of a list that is gone through: if what is left rises then all do
+pub pairs_next_counted : (ps : List (ℕ × Number)) (i least : ℕ) (p : ℕ × Number) → i < length ps → p ≡ get_or ps i p → least ≤ p.0 → is_counted p ≡ true →
+    (AreNext least (drop i ps) → AreNext 0 ps) → AreNext (p.0 + 1) (drop (i + 1) ps) → AreNext 0 ps
+pairs_next_counted ps i least p l e k q before rest =
+    let here : drop i ps ≡ p ∷ drop (i + 1) ps = drop_more ps i p l ∙ ap (λ x. x ∷ drop (i + 1) ps) (sym e) in
+    before (subst (AreNext least) (sym here) (more_pairs least p (drop (i + 1) ps) true q k rest))
 
 multipliers_rise : (d : Data) → first_fault (multipliers_checks d) ≡ None → AreTerms (weights (multipliers_in d).pairs)
 multipliers_rise d h = (pairs_next 0 0 (items_in d) (items_pass pair_asked after_pair (record { least = 0 }) d h)).rise

@@ -4,11 +4,9 @@ use Rattle.serde_json.specs.Data.{Data, null, string, array, object, number, uns
 use Rattle.serde_json.specs.Written.{compact_text}
 use Rattle.serde_json.specs.View.{items_of}
 use Rattle.hys_number.specs.Number.{Number}
-use Rattle.hys_frac.specs.Written.{number_text}
-use Rattle.hys_relax.specs.declared.multipliers.Multipliers.{Multipliers}
+use Rattle.hys_json.specs.Shown.{fraction_data, pair_data as pair}
 use Rattle.hys_relax.specs.declared.range.TablePlace.{TablePlace}
 use Rattle.hys_relax.specs.declared.range.TablePlace.TheVariants.{Cell, Value, Sum}
-use Rattle.hys_tree.specs.declared.answer.Answer.{Answer}
 use Rattle.hys_tree.specs.declared.answer.Best.{Best}
 use Rattle.hys_tree.specs.declared.answer.Claim.{Claim}
 use Rattle.hys_tree.specs.declared.answer.Claim.TheVariants.{Least, NoneExists, AtLeast}
@@ -16,10 +14,6 @@ use Rattle.hys_tree.specs.declared.answer.Why.{Why}
 use Rattle.hys_tree.specs.declared.answer.Why.TheVariants.{Spent, Range}
 use Rattle.hys_tree.specs.declared.tree.TreePlace.{TreePlace}
 use Rattle.hys_tree.specs.declared.tree.TreePlace.TheVariants.{Inner, Cost, Never}
-
--- a fraction is a string
-abbrev pub fraction_data : Number → Data
-fraction_data a = string (number_text a)
 
 abbrev pub whole_data : ℕ → Data
 whole_data n = number (unsigned n)
@@ -30,7 +24,7 @@ list_data ds = array (items_of ds)
 -- ---- the tree
 -- a row and its multiplier
 abbrev pub pair_data : ℕ × Number → Data
-pair_data p = array (item (whole_data p.0) (item (fraction_data p.1) no_items))
+pair_data p = pair p.0 p.1
 
 abbrev pub pairs_data : List (ℕ × Number) → Data
 pairs_data ps = list_data (map pair_data ps)
@@ -43,6 +37,9 @@ place_data (Cost m k) = object
 place_data (Never m k) = object
     (member (codes "depth") (whole_data k)
     (member (codes "never") (pairs_data m.pairs) no_members))
+
+abbrev pub places_data : List TreePlace → Data
+places_data places = list_data (map place_data places)
 
 -- ---- the claim
 abbrev pub point_data : List Number → Data
@@ -94,7 +91,7 @@ abbrev pub answer_data : Claim → List TreePlace → Data
 answer_data c places = object
     (member (codes "claim") (claim_data c)
     (member (codes "format") (string (codes "hysdel-answer"))
-    (member (codes "tree") (list_data (map place_data places))
+    (member (codes "tree") (places_data places)
     (member (codes "version") (whole_data 1) no_members))))
 
 -- one line of compact JSON

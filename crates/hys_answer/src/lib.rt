@@ -2,12 +2,13 @@
 #![tactic(auto)]
 
 mod claim;
-mod fault;
 mod forms;
+mod guess;
 pub mod laws;
 mod lists;
 mod places;
 mod reader;
+mod rising;
 mod why;
 mod writer;
 

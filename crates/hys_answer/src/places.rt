@@ -44,8 +44,8 @@ impl Reader for PairsBefore {
     }
 }
 
-// Whether the multiplier of the row isn't 0.
-fn is_counted(pair: &(u32, Frac)) -> bool
+/// Whether the multiplier of the row isn't 0.
+pub fn is_counted(pair: &(u32, Frac)) -> bool
     ensures { result ≡ is_counted pair.now }
 {
     !matches!(Ord::cmp(&pair.1, &Frac::whole(0)), Ordering::Equal)

@@ -1,17 +1,19 @@
 //! An answer's text read as the answer.
 
-ghost use Rattle.std.specs.Prelude.{◌≡◌, ◌<◌, ◌↔◌, length, codes, IfOk, IsTrue};
+ghost use Rattle.std.specs.Prelude.{◌≡◌, ◌<◌, ◌≤◌, ◌↔◌, length, codes, IfOk, IfSome, IsTrue};
 ghost use Rattle.serde_json.specs.View.{view};
 ghost use Rattle.hys_json.specs.Checks.{Judged};
 ghost use Rattle.hys_json.specs.Values.{member_in, closed_checks};
 ghost use Rattle.hys_tree.specs.Multiplied.{AreMultiplied};
 ghost use Rattle.hys_answer.specs.Reading.{answer_keys, front_checks, back_checks, HasAnswerKeys, claim_in, tree_in, answer_checks, answer_in, version_checks, most_places};
-ghost use Rattle.hys_answer.specs.Texts.{IsAnswerRead};
+ghost use Rattle.hys_answer.specs.Texts.{most_bytes, IsAnswerText, IsAnswerRead};
 
 use crate::claim::read_claim;
-use crate::fault::{of_text, of_value, over_limit};
+use crate::guess::guess;
 use crate::places::read_tree;
-use hys_file::FileFault;
+use crate::rising::are_multiplied;
+use crate::writer::write_answer;
+use hys_file::{FileFault, of_text, of_value, over_limit};
 use hys_json::{ValueFault, check, check_keys, check_word, member, within};
 use hys_tree::{Answer, Claim, Tree};
 use serde_json::Value;
@@ -107,6 +109,30 @@ pub fn is_too_large(tree: &Tree) -> bool
     tree.places.items().len() > MOST_PLACES
 }
 
+/// The answer of a text that is written as answers are: it is guessed piece by piece, and the guess is right where the
+/// same text is written for it. None for any other text.
+pub fn read_written(alloc: Global, text: &[u8]) -> Option<Answer>
+    requires { length text.now ≤ most_bytes }
+    ensures read { IfSome result (λ a. IsAnswerText text.now a) }
+    ensures multiplied { IfSome result (λ a. AreMultiplied a.tree.places) }
+{
+    let (claim, tree) = guess(alloc, std::str::from_utf8(text).ok()?)?;
+    let answer = Answer {
+        claim,
+        tree,
+        expanded: 0,
+    };
+    if is_too_large(&answer.tree) || !are_multiplied(answer.tree.places.items()) {
+        return None;
+    }
+    let written = write_answer(alloc, &answer).ok()?;
+    if written.as_slice() == text {
+        Some(answer)
+    } else {
+        None
+    }
+}
+
 /// The answer that a text stands for. The text doesn't say how many nodes were expanded: `expanded` is 0. In the tree
 /// rows of multipliers rise and no multiplier is 0.
 ///
@@ -121,6 +147,9 @@ pub fn read_answer(alloc: Global, text: &[u8]) -> Result<Answer, FileFault>
 {
     if text.len() > MOST_BYTES {
         return Err(over_limit(alloc, "bytes"));
+    }
+    if let Some(answer) = read_written(alloc, text) {
+        return Ok(answer);
     }
     let value = match Value::from_slice(alloc, text) {
         Ok(value) => value,

@@ -1,4 +1,5 @@
-use crate::{read_answer, write_answer};
+use crate::reader::read_written;
+use crate::{MOST_BYTES, read_answer, write_answer};
 use hys_file::FileFault;
 use std::alloc::{AllocError, Global};
 use std::test::Fail;
@@ -250,6 +251,34 @@ const AGAIN: [(&str, &str, &str, &str); 8] = [
     ),
 ];
 
+/// Texts by the part of an answer that is changed to another that says the same, and whether the text is still as it is
+/// written.
+const SAME: [(&str, &str, &str, bool); 13] = [
+    (LEAST, "", "", true),
+    (NONE, "", "", true),
+    (SPENT, "", "", true),
+    (RANGE, "", "", true),
+    (LEAST, r#""tree":["#, r#""tree": ["#, false),
+    (SPENT, r#"{"best":null,"#, r#"{ "best":null,"#, false),
+    (NONE, r#""version":1}"#, r#""version":1} "#, false),
+    (
+        SPENT,
+        r#""format":"hysdel-answer","tree":[{"cost":[],"depth":0}]"#,
+        r#""tree":[{"cost":[],"depth":0}],"format":"hysdel-answer""#,
+        false,
+    ),
+    (
+        SPENT,
+        r#"{"cost":[],"depth":0}"#,
+        r#"{"depth":0,"cost":[]}"#,
+        false,
+    ),
+    (NONE, r#""1/2""#, r#""2/4""#, false),
+    (NONE, r#"[2,"1/2"]"#, r#"[1,"0"],[2,"1/2"]"#, false),
+    (LEAST, r#""cost":"-3""#, r#""cost":"-3.0""#, false),
+    (LEAST, r#"{"column":1}"#, r#"{"\u0063olumn":1}"#, false),
+];
+
 // The text with the first place of a part changed.
 fn changed(alloc: Global, text: &str, part: &str, other: &str) -> Result<String, AllocError> {
     let mut found = String::new(alloc);
@@ -302,6 +331,24 @@ fn read_texts_are_written_again(rt: HostRuntime) -> Result<(), Fail> {
         let mut wanted = changed(alloc, text, part, kept)?.into_bytes();
         wanted.push(b'\n')?;
         assert_eq!(rt; written_again(alloc, given.as_str())?, wanted, "{given}");
+    }
+    Ok(())
+}
+
+fn is_as_written(alloc: Global, text: &str) -> bool {
+    text.len() <= MOST_BYTES && read_written(alloc, text.as_bytes()).is_some()
+}
+
+#[test]
+fn other_texts_say_the_same(rt: HostRuntime) -> Result<(), Fail> {
+    let alloc = rt.alloc();
+    for (text, part, other, wanted) in SAME {
+        let mut given = changed(alloc, text, part, other)?;
+        given.push('\n')?;
+        let mut written = changed(alloc, text, "", "")?.into_bytes();
+        written.push(b'\n')?;
+        assert_eq!(rt; is_as_written(alloc, given.as_str()), wanted, "{given}");
+        assert_eq!(rt; written_again(alloc, given.as_str())?, written, "{given}");
     }
     Ok(())
 }

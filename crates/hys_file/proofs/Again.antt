@@ -36,9 +36,10 @@ use Rattle.hys_sys.specs.declared.system.Column.{Column}
 use Rattle.hys_sys.specs.declared.system.Output.{Output}
 use Rattle.hys_sys.specs.declared.system.System.{System}
 use Rattle.hys_sys.specs.System.{IsSystem, IsBox, InOrder, rank, states}
-use Rattle.hys_file.specs.Matrix.{number_data, kind_word, role_word, column_data, term_data, terms_data, next_data, output_data, row_data, rows_data, matrix_data}
+use Rattle.hys_json.specs.Shown.{fraction_data}
+use Rattle.hys_file.specs.Matrix.{kind_word, role_word, column_data, term_data, terms_data, next_data, output_data, row_data, rows_data, matrix_data}
 use Rattle.hys_file.specs.Fitting.{ColumnFits, TermFits, FormFits, OutputFits, RowFits, NumbersFit}
-use Rattle.hys_file.specs.Reading.{item_in, pair_checks, first, second, term_in, is_equal, is_zero, term_checks, after_term, terms_in, terms_checks, form_keys, form_in, form_checks, isnt_greater, box_checks, kind_in, kind_checks, role_in, role_checks, column_keys, column_in, after_column, is_kinds_box, column_parts, column_rules, column_checks, columns_in, columns_checks, form_asked, after_form, next_in, next_checks, output_keys, output_in, after_output, output_parts, output_checks, column_name, outputs_in, outputs_checks, row_in, row_keys, row_checks, after_row, labelled, rows_checks, row_of, label_of, matrix_keys, version_checks, forms_checks, front_checks, back_checks, matrix_checks, system_in, most_weight, limit_of}
+use Rattle.hys_file.specs.Reading.{item_in, pair_checks, first, second, term_in, is_equal, is_zero, term_checks, after_term, terms_in, terms_checks, form_keys, form_in, form_checks, isnt_greater, box_checks, kind_in, kind_checks, role_in, role_checks, column_keys, column_in, after_column, is_kinds_box, column_parts, column_rules, column_checks, columns_in, columns_checks, form_asked, after_form, next_in, next_checks, output_keys, output_in, after_output, output_parts, output_checks, column_name, output_name, outputs_in, outputs_checks, row_in, row_keys, row_checks, after_row, labelled, rows_checks, row_of, label_of, matrix_keys, version_checks, forms_checks, front_checks, back_checks, matrix_checks, system_in, most_weight, limit_of}
 use Rattle.hys_file.proofs.Distinct.{Fresh, fresh_differ, fresh_front, fresh_back}
 
 -- ---- tests
@@ -70,10 +71,10 @@ not_zero a h = go (number_cmp a (whole 0)) (number_ranks a (whole 0))
     go Greater k = refl
 
 -- ---- numbers
-number_again : (a : Number) → IsTrue (fits a) → fraction_in (number_data a) ≡ a
+number_again : (a : Number) → IsTrue (fits a) → fraction_in (fraction_data a) ≡ a
 number_again a f = ap fraction_by (read_back a f)
 
-number_passes : (a : Number) → IsTrue (fits a) → first_fault (fraction_checks (number_data a)) ≡ None
+number_passes : (a : Number) → IsTrue (fits a) → first_fault (fraction_checks (fraction_data a)) ≡ None
 number_passes a f = ap (λ r. first_fault (shape true ∷ number (fits_by r) ∷ [])) (read_back a f)
 
 whole_again : (n : ℕ) → n < 2 ^ 32 → whole_by (numeral (unsigned n)) ≡ Some n
@@ -141,10 +142,10 @@ form_closed f = refl
 
 form_passes : (columns : ℕ) (f : Affine) → columns ≤ 2 ^ 32 → AreTermsOver columns f.terms → FormFits f → first_fault (form_checks columns (next_data f)) ≡ None
 form_passes columns f m o n =
-    let constant : List Check = under (codes "constant") (fraction_checks (number_data f.constant)) in
+    let constant : List Check = under (codes "constant") (fraction_checks (fraction_data f.constant)) in
     let terms : List Check = under (codes "terms") (terms_checks columns (terms_data f.terms)) in
     none_after_none (closed_checks form_keys (next_data f)) (constant ++ terms) (form_closed f)
-    (none_after_none constant terms (deeper_none (codes "constant") (fraction_checks (number_data f.constant)) (number_passes f.constant n.0))
+    (none_after_none constant terms (deeper_none (codes "constant") (fraction_checks (fraction_data f.constant)) (number_passes f.constant n.0))
     (deeper_none (codes "terms") (terms_checks columns (terms_data f.terms)) (terms_pass columns f.terms m o n.1)))
 
 -- ---- kinds and roles
@@ -198,12 +199,12 @@ bounds_data b = member_in (codes "box") (column_data (record { name = []; role =
 box_passes : (b : Interval) → b.low ≤ₙ b.high → IsTrue (fits b.low) → IsTrue (fits b.high) → first_fault (box_checks (bounds_data b)) ≡ None
 unfolding pair_checks
 box_passes b l f g =
-    let low : List Check = under first (fraction_checks (number_data b.low)) in
-    let high : List Check = under second (fraction_checks (number_data b.high)) in
-    let test : List Check = shape (isnt_greater (number_cmp (fraction_in (number_data b.low)) (fraction_in (number_data b.high)))) ∷ [] in
+    let low : List Check = under first (fraction_checks (fraction_data b.low)) in
+    let high : List Check = under second (fraction_checks (fraction_data b.high)) in
+    let test : List Check = shape (isnt_greater (number_cmp (fraction_in (fraction_data b.low)) (fraction_in (fraction_data b.high)))) ∷ [] in
     none_after_none (pair_checks (bounds_data b)) (low ++ (high ++ test)) refl
-    (none_after_none low (high ++ test) (deeper_none first (fraction_checks (number_data b.low)) (number_passes b.low f))
-    (none_after_none high test (deeper_none second (fraction_checks (number_data b.high)) (number_passes b.high g))
+    (none_after_none low (high ++ test) (deeper_none first (fraction_checks (fraction_data b.low)) (number_passes b.low f))
+    (none_after_none high test (deeper_none second (fraction_checks (fraction_data b.high)) (number_passes b.high g))
     (ap₂ (λ x y. first_fault (shape (isnt_greater (number_cmp x y)) ∷ [])) (number_again b.low f) (number_again b.high g) ∙ ap (λ t. first_fault (shape t ∷ [])) (not_greater b.low b.high l))))
 
 parts_pass : (c : Column) → c.bounds.low ≤ₙ c.bounds.high → ColumnFits c → first_fault (column_parts (column_data c)) ≡ None
@@ -302,16 +303,13 @@ output_again columns o m t n = λ i. record {
 output_passes : (columns : ℕ) (o : Output) → columns ≤ 2 ^ 32 → AreTermsOver columns o.form.terms → OutputFits o → first_fault (output_parts columns (output_data o)) ≡ None
 unfolding output_parts closed_checks
 output_passes columns o m t n =
-    none_of_five (closed_checks output_keys (output_data o)) (under (codes "constant") (fraction_checks (number_data o.form.constant))) (under (codes "kind") (kind_checks (string (kind_word o.kind))))
+    none_of_five (closed_checks output_keys (output_data o)) (under (codes "constant") (fraction_checks (fraction_data o.form.constant))) (under (codes "kind") (kind_checks (string (kind_word o.kind))))
     (under (codes "name") (text_checks (string o.name))) (under (codes "terms") (terms_checks columns (terms_data o.form.terms)))
     refl
-    (deeper_none (codes "constant") (fraction_checks (number_data o.form.constant)) (number_passes o.form.constant n.0))
+    (deeper_none (codes "constant") (fraction_checks (fraction_data o.form.constant)) (number_passes o.form.constant n.0))
     (deeper_none (codes "kind") (kind_checks (string (kind_word o.kind))) (kind_passes o.kind))
     (deeper_none (codes "name") (text_checks (string o.name)) refl)
     (deeper_none (codes "terms") (terms_checks columns (terms_data o.form.terms)) (terms_pass columns o.form.terms m t n.1))
-
-abbrev output_name : Output → List ℕ
-output_name o = o.name
 
 abbrev outputs_data : List Output → Data
 outputs_data os = array (items_of (map output_data os))
@@ -374,11 +372,11 @@ row_closed l r = refl
 
 row_passes : (columns : ℕ) (l : List ℕ) (r : Row) → columns ≤ 2 ^ 32 → AreTermsOver columns r.terms → RowFits r → first_fault (row_checks (record { columns = columns }) (row_data l r)) ≡ None
 row_passes columns l r m t n =
-    let bound : List Check = under (codes "bound") (fraction_checks (number_data r.bound)) in
+    let bound : List Check = under (codes "bound") (fraction_checks (fraction_data r.bound)) in
     let label : List Check = under (codes "item") (text_checks (string l)) in
     let terms : List Check = under (codes "terms") (terms_checks columns (terms_data r.terms)) in
     none_after_none (closed_checks row_keys (row_data l r)) (bound ++ (label ++ terms)) (row_closed l r)
-    (none_after_none bound (label ++ terms) (deeper_none (codes "bound") (fraction_checks (number_data r.bound)) (number_passes r.bound n.0))
+    (none_after_none bound (label ++ terms) (deeper_none (codes "bound") (fraction_checks (fraction_data r.bound)) (number_passes r.bound n.0))
     (none_after_none label terms (deeper_none (codes "item") (text_checks (string l)) refl)
     (deeper_none (codes "terms") (terms_checks columns (terms_data r.terms)) (terms_pass columns r.terms m t n.1))))
 

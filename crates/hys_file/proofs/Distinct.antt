@@ -83,6 +83,10 @@ others_of_none (m ∷ ms) = (refl, others_of_none ms)
 pub fresh_differ : (ms : List (List ℕ)) → Differ ms → Fresh [] ms
 fresh_differ ms d = fresh_others [] ms (others_of_none ms) d
 
+-- a name that is none of those before stays apart from them
+pub differ_more : (ns new : List (List ℕ)) (m : List ℕ) → is_one_of ns m ≡ false → new ≡ ns ++ m ∷ [] → Differ ns → Differ new
+differ_more ns new m n e d = subst Differ (sym e) (differ_fresh [] (ns ++ m ∷ []) (fresh_append [] ns (m ∷ []) (fresh_differ ns d) (n, tt)))
+
 -- ---- the columns one after the other
 from_here : (cs : List Column) (i : ℕ) (c : Column) (ns : List (List ℕ)) → i < length cs → c ≡ get_or cs i c → Fresh ns (map column_name (drop i cs)) →
     Fresh ns (c.name ∷ map column_name (drop (i + 1) cs))

@@ -33,7 +33,7 @@ use Rattle.hys_sys.specs.declared.system.Output.{Output}
 use Rattle.hys_sys.specs.declared.system.System.{System}
 use Rattle.hys_sys.specs.System.{IsSystem, IsBox, InOrder, rank, states}
 use Rattle.hys_file.specs.declared.column.ColumnsBefore.{ColumnsBefore}
-use Rattle.hys_file.specs.Reading.{item_in, pair_checks, first, second, term_in, is_equal, is_zero, term_checks, after_term, terms_in, terms_checks, form_keys, form_in, form_checks, box_in, isnt_greater, box_checks, kind_checks, role_checks, column_keys, name_in, column_in, after_column, is_kinds_box, column_parts, column_rules, column_checks, columns_in, columns_checks, form_asked, after_form, next_in, next_checks, output_keys, output_in, after_output, output_parts, output_checks, column_name, outputs_in, outputs_checks, row_in, first_row_keys, row_keys, first_row_checks, row_checks, after_first_row, after_row, first_labelled, labelled, rows_by, rows_checks, row_of, label_of, matrix_keys, is_first_version, version_checks, columns_of, forms_checks, front_checks, back_checks, matrix_checks, system_in, most_weight, limit_of}
+use Rattle.hys_file.specs.Reading.{item_in, pair_checks, first, second, term_in, is_equal, is_zero, term_checks, after_term, terms_in, terms_checks, form_keys, form_in, form_checks, box_in, isnt_greater, box_checks, kind_checks, role_checks, column_keys, name_in, column_in, after_column, is_kinds_box, column_parts, column_rules, column_checks, columns_in, columns_checks, form_asked, after_form, next_in, next_checks, output_keys, output_in, after_output, output_parts, output_checks, column_name, output_name, outputs_in, outputs_checks, row_in, first_row_keys, row_keys, first_row_checks, row_checks, after_first_row, after_row, first_labelled, labelled, rows_by, rows_checks, row_of, label_of, matrix_keys, is_first_version, version_checks, columns_of, forms_checks, front_checks, back_checks, matrix_checks, system_in, most_weight, limit_of}
 use Rattle.hys_file.specs.Texts.{IsTextOf}
 use Rattle.hys_file.proofs.Distinct.{Fresh, differ_fresh, fresh_append}
 
@@ -54,7 +54,7 @@ isnt : (b : Bool) → not b ≡ true → b ≡ false
 isnt true h = absurd (cc)
 isnt false h = refl
 
-not_greater : (a b : Number) → isnt_greater (number_cmp a b) ≡ true → a ≤ₙ b
+pub not_greater : (a b : Number) → isnt_greater (number_cmp a b) ≡ true → a ≤ₙ b
 not_greater a b h = go (number_cmp a b) (number_ranks a b) h
   where
     go : (r : Ordering) → MatchOrdering r (a <ₙ b) (a ≡ b) (b <ₙ a) → isnt_greater r ≡ true → a ≤ₙ b
@@ -79,10 +79,15 @@ other_numbers a b h = go (number_cmp a b) (number_ranks a b) h
     go Greater k e = λ q. lt_irrefl b (subst (λ x. b <ₙ x) q k)
 
 -- ---- terms
-record IsNextTerm (columns least : ℕ) (t : Term) : Type 0 where
+pub record IsNextTerm (columns least : ℕ) (t : Term) : Type 0 where
   starts : least ≤ t.column
   below : t.column < columns
   factor : ¬ (t.factor ≡ whole 0)
+
+pub next_term : (columns least : ℕ) (t : Term) → nat_le least t.column && nat_lt t.column columns ≡ true → is_zero t.factor ≡ false → IsNextTerm columns least t
+next_term columns least t w z =
+    let within = and_both (nat_le least t.column) (nat_lt t.column columns) w in
+    record { starts = is_at_most least t.column within.0; below = is_below t.column columns within.1; factor = other_numbers t.factor (whole 0) z }
 
 term_lawful : (columns least : ℕ) (d : Data) → first_fault (term_checks (record { columns = columns; least = least }) d) ≡ None → IsNextTerm columns least (term_in d)
 term_lawful columns least d h =
@@ -92,18 +97,13 @@ term_lawful columns least d h =
     let two = both_pass (under first (whole_checks (item_in 0 d))) (under second (fraction_checks (item_in 1 d)) ++ (place ++ factor)) one.1 in
     let three = both_pass (under second (fraction_checks (item_in 1 d))) (place ++ factor) two.1 in
     let four = both_pass place factor three.1 in
-    let within = and_both (nat_le least (whole_in (item_in 0 d))) (nat_lt (whole_in (item_in 0 d)) columns)
-    (passes_only (nat_le least (whole_in (item_in 0 d)) && nat_lt (whole_in (item_in 0 d)) columns) (passes_within first (shape (nat_le least (whole_in (item_in 0 d)) && nat_lt (whole_in (item_in 0 d)) columns) ∷ []) four.0)) in
-    record {
-      starts = is_at_most least (whole_in (item_in 0 d)) within.0;
-      below = is_below (whole_in (item_in 0 d)) columns within.1;
-      factor = other_numbers (fraction_in (item_in 1 d)) (whole 0) (isnt (is_zero (fraction_in (item_in 1 d)))
-          (passes_only (not (is_zero (fraction_in (item_in 1 d)))) (passes_within second (shape (not (is_zero (fraction_in (item_in 1 d)))) ∷ []) four.1)));
-    }
+    next_term columns least (term_in d)
+    (passes_only (nat_le least (whole_in (item_in 0 d)) && nat_lt (whole_in (item_in 0 d)) columns) (passes_within first (shape (nat_le least (whole_in (item_in 0 d)) && nat_lt (whole_in (item_in 0 d)) columns) ∷ []) four.0))
+    (isnt (is_zero (fraction_in (item_in 1 d))) (passes_only (not (is_zero (fraction_in (item_in 1 d)))) (passes_within second (shape (not (is_zero (fraction_in (item_in 1 d)))) ∷ []) four.1)))
 
-record AreNextTerms (columns least : ℕ) (ts : List Term) : Type 0 where
+pub record AreNextTerms (columns least : ℕ) (ts : List Term) : Type 0 where
   starts : EachColumn (λ c. least ≤ c) ts
-  over : AreTermsOver columns ts
+  pub over : AreTermsOver columns ts
 
 after_least : (least c : ℕ) (ts : List Term) → least ≤ c → EachColumn (λ d. c + 1 ≤ d) ts → EachColumn (λ d. least ≤ d) ts
 after_least least c ts l h = each_more (λ d. c + 1 ≤ d) (λ d. least ≤ d) ts (λ d k. omega arith) h
@@ -111,20 +111,24 @@ after_least least c ts l h = each_more (λ d. c + 1 ≤ d) (λ d. least ≤ d) t
 rises_after : (c : ℕ) (ts : List Term) → EachColumn (λ d. c + 1 ≤ d) ts → EachColumn (λ d. c < d) ts
 rises_after c ts h = each_more (λ d. c + 1 ≤ d) (λ d. c < d) ts (λ d k. omega arith) h
 
+pub no_terms : (columns least : ℕ) → AreNextTerms columns least []
+no_terms columns least = record { starts = tt; over = record { rise = tt; below = tt } }
+
+pub next_terms : (columns least : ℕ) (t : Term) (ts : List Term) → IsNextTerm columns least t → AreNextTerms columns (t.column + 1) ts → AreNextTerms columns least (t ∷ ts)
+next_terms columns least t ts one rest = record {
+  starts = (one.starts, after_least least t.column ts one.starts rest.starts);
+  over = record {
+    rise = (one.factor, rises_after t.column ts rest.starts, rest.over.rise);
+    below = (one.below, rest.over.below);
+  };
+}
+
 items_lawful : (columns k least : ℕ) (ds : List Data) → first_fault (each_from term_checks after_term k (record { columns = columns; least = least }) ds) ≡ None →
     AreNextTerms columns least (map term_in ds)
-items_lawful columns k least [] h = record { starts = tt; over = record { rise = tt; below = tt } }
+items_lawful columns k least [] h = no_terms columns least
 items_lawful columns k least (d ∷ ds) h =
     let p = each_passes term_checks after_term k (record { columns = columns; least = least }) d ds h in
-    let one : IsNextTerm columns least (term_in d) = term_lawful columns least d p.0 in
-    let rest : AreNextTerms columns ((term_in d).column + 1) (map term_in ds) = items_lawful columns (suc k) ((term_in d).column + 1) ds p.1 in
-    record {
-      starts = (one.starts, after_least least (term_in d).column (map term_in ds) one.starts rest.starts);
-      over = record {
-        rise = (one.factor, rises_after (term_in d).column (map term_in ds) rest.starts, rest.over.rise);
-        below = (one.below, rest.over.below);
-      };
-    }
+    next_terms columns least (term_in d) (map term_in ds) (term_lawful columns least d p.0) (items_lawful columns (suc k) ((term_in d).column + 1) ds p.1)
 
 pub terms_lawful : (columns : ℕ) (d : Data) → first_fault (terms_checks columns d) ≡ None → AreTermsOver columns (terms_in d)
 terms_lawful columns d h =
@@ -156,7 +160,7 @@ part_box d h =
     let two = both_pass box others one.1 in
     box_lawful (member_in (codes "box") d) (passes_within (codes "box") (box_checks (member_in (codes "box") d)) two.0)
 
-of_kind : (k : Kind2) (i : Interval) → i.low ≤ₙ i.high → is_kinds_box k i ≡ true → IsBox k i
+pub of_kind : (k : Kind2) (i : Interval) → i.low ≤ₙ i.high → is_kinds_box k i ≡ true → IsBox k i
 of_kind Real i l h = l
 of_kind kind.Bool i l h =
     let p = and_both (is_equal (number_cmp i.low (whole 0))) (is_equal (number_cmp i.high (whole 1))) h in
@@ -254,9 +258,6 @@ part_terms columns d h =
     let four = both_pass name terms three.1 in
     terms_lawful columns (member_in (codes "terms") d) (passes_within (codes "terms") (terms_checks columns (member_in (codes "terms") d)) four.1)
 
-abbrev output_name : Output → List ℕ
-output_name o = o.name
-
 -- no name before is that of the output
 pub output_fresh : (ns : List (List ℕ)) (n : List ℕ) → first_fault (under (codes "name") (shape (not (is_one_of ns n)) ∷ [])) ≡ None → is_one_of ns n ≡ false
 output_fresh ns n h = isnt (is_one_of ns n) (passes_only (not (is_one_of ns n)) (passes_within (codes "name") (shape (not (is_one_of ns n)) ∷ []) h))
@@ -332,17 +333,19 @@ no_limit : (b : Bool) (what : List ℕ) (rest : Option (List ℕ)) → cond b (S
 no_limit true what rest h = absurd (cc)
 no_limit false what rest h = (refl, h)
 
-record KeepsLimits (s : System) : Type 0 where
-  few_columns : length s.columns ≤ s.weight
-  few_rows : length s.rows ≤ 5 * s.weight
+pub record KeepsLimits (s : System) : Type 0 where
+  pub light : s.weight ≤ most_weight
+  pub few_columns : length s.columns ≤ s.weight
+  pub few_rows : length s.rows ≤ 5 * s.weight
 
-within_limits : (s : System) → limit_of s ≡ None → KeepsLimits s
+pub within_limits : (s : System) → limit_of s ≡ None → KeepsLimits s
 within_limits s h =
     let rows : Option (List ℕ) = cond (nat_lt (5 * s.weight) (length s.rows)) (Some (codes "rows")) None in
     let one = no_limit (nat_lt most_weight s.weight) (codes "weight") (cond (nat_lt s.weight (length s.columns)) (Some (codes "columns")) rows) h in
     let two = no_limit (nat_lt s.weight (length s.columns)) (codes "columns") rows one.1 in
     let three = no_limit (nat_lt (5 * s.weight) (length s.rows)) (codes "rows") None two.1 in
     record {
+      light = isnt_below most_weight s.weight one.0;
       few_columns = isnt_below s.weight (length s.columns) two.0;
       few_rows = isnt_below (5 * s.weight) (length s.rows) three.0;
     }

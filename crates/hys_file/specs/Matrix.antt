@@ -3,8 +3,7 @@ use Rattle.std.specs.Prelude.{ℕ, List, [], ◌∷◌, ◌++◌, map, codes}
 use Rattle.serde_json.specs.Data.{Data, string, array, object, number, unsigned, no_items, item, no_members, member}
 use Rattle.serde_json.specs.Written.{compact_text}
 use Rattle.serde_json.specs.View.{items_of}
-use Rattle.hys_number.specs.Number.{Number}
-use Rattle.hys_frac.specs.Written.{number_text}
+use Rattle.hys_json.specs.Shown.{fraction_data, pair_data}
 use Rattle.hys_lin.specs.declared.form.Term.{Term}
 use Rattle.hys_lin.specs.declared.form.Affine.{Affine}
 use Rattle.hys_lin.specs.declared.form.Row.{Row}
@@ -15,10 +14,6 @@ use Rattle.hys_sys.specs.declared.system.Kind2.TheVariants.{Real, Bool}
 use Rattle.hys_sys.specs.declared.system.Column.{Column}
 use Rattle.hys_sys.specs.declared.system.Output.{Output}
 use Rattle.hys_sys.specs.declared.system.System.{System}
-
--- a number is a string
-abbrev pub number_data : Number → Data
-number_data a = string (number_text a)
 
 abbrev pub kind_word : Kind2 → List ℕ
 kind_word Real = codes "real"
@@ -32,26 +27,26 @@ role_word Z = codes "z"
 
 abbrev pub column_data : Column → Data
 column_data c = object
-    (member (codes "box") (array (item (number_data c.bounds.low) (item (number_data c.bounds.high) no_items)))
+    (member (codes "box") (array (item (fraction_data c.bounds.low) (item (fraction_data c.bounds.high) no_items)))
     (member (codes "kind") (string (kind_word c.kind))
     (member (codes "name") (string c.name)
     (member (codes "role") (string (role_word c.role)) no_members))))
 
 -- a term is its column and its factor
 abbrev pub term_data : Term → Data
-term_data t = array (item (number (unsigned t.column)) (item (number_data t.factor) no_items))
+term_data t = pair_data t.column t.factor
 
 abbrev pub terms_data : List Term → Data
 terms_data ts = array (items_of (map term_data ts))
 
 abbrev pub next_data : Affine → Data
 next_data f = object
-    (member (codes "constant") (number_data f.constant)
+    (member (codes "constant") (fraction_data f.constant)
     (member (codes "terms") (terms_data f.terms) no_members))
 
 abbrev pub output_data : Output → Data
 output_data o = object
-    (member (codes "constant") (number_data o.form.constant)
+    (member (codes "constant") (fraction_data o.form.constant)
     (member (codes "kind") (string (kind_word o.kind))
     (member (codes "name") (string o.name)
     (member (codes "terms") (terms_data o.form.terms) no_members))))
@@ -59,7 +54,7 @@ output_data o = object
 -- a row, with the label of its item
 abbrev pub row_data : List ℕ → Row → Data
 row_data label r = object
-    (member (codes "bound") (number_data r.bound)
+    (member (codes "bound") (fraction_data r.bound)
     (member (codes "item") (string label)
     (member (codes "terms") (terms_data r.terms) no_members)))
 

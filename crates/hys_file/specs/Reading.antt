@@ -220,6 +220,9 @@ output_checks b d = output_parts b.columns d ++ under (codes "name") (shape (not
 abbrev pub column_name : Column → List ℕ
 column_name c = c.name
 
+abbrev pub output_name : Output → List ℕ
+output_name o = o.name
+
 abbrev pub outputs_in : Data → List Output
 outputs_in d = map output_in (items_in d)
 

@@ -23,7 +23,8 @@ use serde_json::Value;
 use std::alloc::{AllocError, Global};
 use std::cmp::Ordering;
 
-fn is_at_most(low: Frac, high: Frac) -> bool
+/// Whether the low number is at most the high one.
+pub fn is_at_most(low: Frac, high: Frac) -> bool
     ensures { result ≡ isnt_greater (number_cmp low high) }
 {
     match Ord::cmp(&low, &high) {
@@ -50,8 +51,8 @@ fn is_number(number: Frac, end: u32) -> bool
     matches!(Ord::cmp(&number, &Frac::whole(end)), Ordering::Equal)
 }
 
-// The box of a Boolean column is 0 to 1.
-fn is_kinds_box(kind: Kind2, bounds: Interval) -> bool
+/// Whether the box is one of the kind: that of a Boolean column is 0 to 1.
+pub fn is_kinds_box(kind: Kind2, bounds: Interval) -> bool
     ensures { result ≡ is_kinds_box kind bounds }
 {
     match kind {
@@ -60,7 +61,8 @@ fn is_kinds_box(kind: Kind2, bounds: Interval) -> bool
     }
 }
 
-fn rank(role: ColumnRole) -> u64
+/// The place of a role in the order of the columns.
+pub fn rank(role: ColumnRole) -> u64
     ensures { result ≡ rank role }
 {
     match role {

@@ -1,9 +1,11 @@
 ghost use Rattle.std.specs.Prelude.{◌≡◌, ◌⊎◌, IfOk};
-ghost use Rattle.hys_file.specs.declared.fault.FileFault.TheVariants.{Limit, Memory};
+ghost use Rattle.serde_json.specs.Errors.{IsMemory};
+ghost use Rattle.hys_file.specs.declared.fault.FileFault.TheVariants.{Json, Limit, Memory};
 ghost use Rattle.hys_file.specs.Texts.{shown_path, IsShownAs};
 
 use hys_base::Text;
 use hys_json::ValueFault;
+use serde_json::Error;
 use std::alloc::{AllocError, AllocFailed, Global};
 
 /// Why a file isn't read as what it should be. A path has the keys and the places in lists, joined by
@@ -67,6 +69,17 @@ pub fn of_value(alloc: Global, fault: ValueFault) -> FileFault
             Err(_) => FileFault::Memory,
         },
         ValueFault::Memory => FileFault::Memory,
+    }
+}
+
+/// The fault of a text that is no JSON value.
+pub fn of_text(error: &Error) -> FileFault
+    ensures { (IsMemory error.now × (result ≡ Memory)) ⊎ (¬ (IsMemory error.now) × (result ≡ Json)) }
+{
+    if error.is_memory() {
+        FileFault::Memory
+    } else {
+        FileFault::Json
     }
 }
 

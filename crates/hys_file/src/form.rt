@@ -37,14 +37,16 @@ pub struct TermsBefore {
 }
 
 impl TermsBefore {
-    fn allows(&self, column: u64) -> bool
+    /// Whether the next term may have this column.
+    pub fn allows(&self, column: u64) -> bool
         ensures { result ≡ nat_le self.now.least column && nat_lt column self.now.columns }
     {
         self.least <= column && column < self.columns
     }
 }
 
-fn is_zero(number: Frac) -> bool
+/// Whether the number is 0.
+pub fn is_zero(number: Frac) -> bool
     ensures { result ≡ is_zero number }
 {
     matches!(Ord::cmp(&number, &Frac::whole(0)), Ordering::Equal)

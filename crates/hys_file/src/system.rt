@@ -21,7 +21,8 @@ use hys_sys::{Column, ColumnRole, Output, System};
 use serde_json::Value;
 use std::alloc::{AllocError, Global};
 
-fn count_states(columns: &[Column]) -> u64
+/// How many columns are states.
+pub fn count_states(columns: &[Column]) -> u64
     ensures { result ≡ states columns.now }
 {
     let mut count = 0u64;
@@ -81,8 +82,11 @@ fn read_rows(
     }
 }
 
-// Rows and labels apart.
-fn parted(alloc: Global, labelled: Vec<(Row, Text)>) -> Result<(List<Row>, List<Text>), AllocError>
+/// Rows and labels apart.
+pub fn parted(
+    alloc: Global,
+    labelled: Vec<(Row, Text)>,
+) -> Result<(List<Row>, List<Text>), AllocError>
     ensures { IfOk result (λ p. (p.0 ≡ map row_of labelled.items) × (p.1 ≡ map label_of labelled.items)) }
 {
     let mut rows = Vec::with_capacity(alloc, labelled.len())?;
@@ -106,7 +110,7 @@ fn check_matrix_keys(alloc: Global, value: &Value) -> Result<(), ValueFault>
     )
 }
 
-// What stands before the rows.
+/// What stands before the rows.
 #[derive(Drop)]
 pub struct Front {
     pub columns: List<Column>,
@@ -114,13 +118,30 @@ pub struct Front {
     pub outputs: List<Output>,
 }
 
-// The rows, and what stands behind them.
+/// The rows, and what stands behind them.
 #[derive(Drop)]
 pub struct Back {
     pub rows: List<Row>,
     pub labels: List<Text>,
     pub name: Text,
     pub weight: u32,
+}
+
+/// The system of both parts.
+pub fn whole(front: Front, back: Back) -> System
+    ensures front { (result.columns ≡ front.columns) × (result.next ≡ front.next) × (result.outputs ≡ front.outputs) }
+    ensures rows { (result.rows ≡ back.rows) × (result.labels ≡ back.labels) }
+    ensures others { (result.name ≡ back.name) × (result.weight ≡ back.weight) }
+{
+    System {
+        name: back.name,
+        columns: front.columns,
+        next: front.next,
+        outputs: front.outputs,
+        rows: back.rows,
+        labels: back.labels,
+        weight: back.weight,
+    }
 }
 
 #[tactic(auto, using(hys_json::proofs::Judging::fails_first, hys_json::proofs::Judging::fails_second, hys_json::proofs::Judging::none_after_none, hys_json::proofs::Judging::fails_third, hys_json::proofs::Judging::fails_fourth, hys_json::proofs::Judging::fails_fifth, hys_json::proofs::Judging::none_of_five, hys_json::proofs::Judging::fails_under, hys_json::proofs::Judging::passes_under, hys_json::proofs::Judging::read_as, hys_json::proofs::Readings::closed_has), unfolding(crate::specs::Reading::forms_checks))]

@@ -178,3 +178,27 @@ fn read_texts_are_written_again(rt: HostRuntime) -> Result<(), Fail> {
     }
     Ok(())
 }
+
+/// Parts of `GUARD`, and what says the same in their place. The first text is as it is written; the others aren't.
+const SAME: [(&str, &str); 6] = [
+    ("", ""),
+    (r#"{"columns":["#, r#"{"columns": ["#),
+    (r#""item":"d""#, "\"item\":\t\"d\""),
+    (r#""system":"g","version":2"#, r#""version":2,"system":"g""#),
+    (r#""4999/1000""#, r#""9998/2000""#),
+    (r#""item":"d""#, r#""item":"\u0064""#),
+];
+
+#[test]
+fn each_text_of_a_system_is_read_as_it(rt: HostRuntime) -> Result<(), Fail> {
+    let alloc = rt.alloc();
+    let mut wanted = GUARD.as_bytes().to_vec(alloc)?;
+    wanted.push(b'\n')?;
+    for (part, other) in SAME {
+        let mut text = changed(alloc, GUARD, part, other)?;
+        text.push('\n')?;
+        let got = written_again(alloc, text.as_str())?;
+        assert_eq!(rt; got, wanted, "{text}");
+    }
+    Ok(())
+}

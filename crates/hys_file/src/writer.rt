@@ -1,15 +1,15 @@
-ghost use Rattle.std.specs.Prelude.{◌≡◌, map, IfOk, IsTrue, string_bytes};
+ghost use Rattle.std.specs.Prelude.{◌≡◌, ◌++◌, [], nat_lt, string_bytes, IfOk};
 ghost use Rattle.std.specs.List.{AllByRecursion};
-ghost use Rattle.serde_json.specs.View.{view};
-ghost use Rattle.serde_json.specs.Data.{Data};
-ghost use Rattle.hys_number.specs.Ops.{fits};
-ghost use Rattle.hys_frac.specs.Written.{number_text};
-ghost use Rattle.hys_file.specs.Fitting.{ColumnFits, TermFits, FormFits, OutputFits, RowFits, NumbersFit};
+ghost use Rattle.std.proofs.Common.{get_or};
+ghost use Rattle.serde_json.specs.Data.{array, string};
+ghost use Rattle.serde_json.specs.View.{items_of, view};
+ghost use Rattle.serde_json.specs.Written.{comma_if, compact_text};
+ghost use Rattle.hys_file.specs.Fitting.{ColumnFits, TermFits, FormFits, OutputFits, RowFits};
 ghost use Rattle.hys_file.specs.Texts.{ReadsAs};
-ghost use Rattle.hys_file.specs.Matrix.{kind_word, role_word, column_data, term_data, next_data, output_data, row_data, rows_data, matrix_data, matrix_text};
+ghost use Rattle.hys_file.specs.Matrix.{kind_word, role_word, column_data, term_data, next_data, output_data, row_data, rows_data, matrix_text};
 
 use hys_base::Text;
-use hys_frac::Frac;
+use hys_json::{Writer, number_text, pair, push_list, push_value, write_list};
 use hys_lin::{Affine, Row, Term};
 use hys_sys::{Column, ColumnRole, Kind2, Output, System};
 use serde_json::{Value, json};
@@ -35,98 +35,76 @@ fn role_word(role: ColumnRole) -> &'static str
     }
 }
 
-// The text of a number, which fits as each fraction does.
-#[tactic(auto, using(crate::proofs::Fitted::has_fitting_parts))]
-fn number_text(alloc: Global, number: Frac) -> Result<String, AllocError>
-    ensures text { IfOk result (λ s. string_bytes s ≡ number_text number) }
-    ensures fits { IsTrue (fits number) }
-{
-    let _num = number.num();
-    let _den = number.den();
-    number.text(alloc)
-}
+struct Columns;
 
-/// A part of a matrix text.
-trait Part {
-    /// The JSON value that the text shows it as.
-    ghost shown: { Self → Data };
+impl Writer for Columns {
+    type Item = Column;
 
-    /// That its numbers fit.
-    ghost fit: { Self → Type 0 };
-
-    fn value(&self, alloc: Global) -> Result<Value, AllocError>
-        ensures value { IfOk result (λ v. view v ≡ shown self.now) }
-        ensures fits { IfOk result (λ _. fit self.now) };
-}
-
-// The values of parts in their order.
-#[tactic(auto, using(crate::proofs::Fitted::all_next, crate::proofs::Fitted::all_done))]
-fn values<P: Part>(alloc: Global, parts: &[P]) -> Result<Vec<Value>, AllocError>
-    ensures values { IfOk result (λ v. map view v.items ≡ map P.shown parts.now) }
-    ensures fit { IfOk result (λ _. AllByRecursion P.fit parts.now) }
-{
-    let mut values = Vec::new(alloc);
-    for part in parts {
-        values.push(part.value(alloc)?)?;
-    }
-    Ok(values)
-}
-
-impl Part for Column {
     ghost shown = { column_data };
 
     ghost fit = { ColumnFits };
 
-    fn value(&self, alloc: Global) -> Result<Value, AllocError> {
-        let low = number_text(alloc, self.bounds.low)?;
-        let high = number_text(alloc, self.bounds.high)?;
-        let kind = kind_word(self.kind);
-        let role = role_word(self.role);
+    fn write(&self, alloc: Global, item: &Column) -> Result<Value, AllocError> {
+        let low = number_text(alloc, item.bounds.low)?;
+        let high = number_text(alloc, item.bounds.high)?;
+        let kind = kind_word(item.kind);
+        let role = role_word(item.role);
         json!(in alloc; {
             "box": [low.as_str(), high.as_str()],
             "kind": kind,
-            "name": self.name.text(),
+            "name": item.name.text(),
             "role": role
         })
     }
 }
 
-impl Part for Term {
+struct Terms;
+
+impl Writer for Terms {
+    type Item = Term;
+
     ghost shown = { term_data };
 
     ghost fit = { TermFits };
 
-    fn value(&self, alloc: Global) -> Result<Value, AllocError> {
-        let factor = number_text(alloc, self.factor)?;
-        json!(in alloc; [self.column, factor.as_str()])
+    fn write(&self, alloc: Global, item: &Term) -> Result<Value, AllocError> {
+        pair(alloc, item.column, item.factor)
     }
 }
 
-impl Part for Affine {
+struct Forms;
+
+impl Writer for Forms {
+    type Item = Affine;
+
     ghost shown = { next_data };
 
     ghost fit = { FormFits };
 
-    fn value(&self, alloc: Global) -> Result<Value, AllocError> {
-        let constant = number_text(alloc, self.constant)?;
-        let terms = values(alloc, self.terms.items())?;
+    fn write(&self, alloc: Global, item: &Affine) -> Result<Value, AllocError> {
+        let constant = number_text(alloc, item.constant)?;
+        let terms = write_list(alloc, &Terms, item.terms.items())?;
         json!(in alloc; {"constant": constant.as_str(), "terms": terms})
     }
 }
 
-impl Part for Output {
+struct Outputs;
+
+impl Writer for Outputs {
+    type Item = Output;
+
     ghost shown = { output_data };
 
     ghost fit = { OutputFits };
 
-    fn value(&self, alloc: Global) -> Result<Value, AllocError> {
-        let constant = number_text(alloc, self.form.constant)?;
-        let kind = kind_word(self.kind);
-        let terms = values(alloc, self.form.terms.items())?;
+    fn write(&self, alloc: Global, item: &Output) -> Result<Value, AllocError> {
+        let constant = number_text(alloc, item.form.constant)?;
+        let kind = kind_word(item.kind);
+        let terms = write_list(alloc, &Terms, item.form.terms.items())?;
         json!(in alloc; {
             "constant": constant.as_str(),
             "kind": kind,
-            "name": self.name.text(),
+            "name": item.name.text(),
             "terms": terms
         })
     }
@@ -138,55 +116,87 @@ fn row_value(alloc: Global, label: &str, row: &Row) -> Result<Value, AllocError>
     ensures fits { IfOk result (λ _. RowFits row.now) }
 {
     let bound = number_text(alloc, row.bound)?;
-    let terms = values(alloc, row.terms.items())?;
-    json!(in alloc; {"bound": bound.as_str(), "item": label, "terms": terms})
+    let terms = write_list(alloc, &Terms, row.terms.items())?;
+    json!(in alloc; {"bound": bound, "item": label, "terms": terms})
 }
 
-// The values of rows in their order.
-#[tactic(auto, using(crate::proofs::Fitted::all_next, crate::proofs::Fitted::all_done))]
-fn row_values(alloc: Global, labels: &[Text], rows: &[Row]) -> Result<Vec<Value>, AllocError>
-    ensures values { IfOk result (λ v. map view v.items ≡ rows_data labels.now rows.now) }
+// The label at a place, the empty text where there is none.
+fn label_at(labels: &[Text], at: usize) -> &str
+    ensures { result.now ≡ get_or labels.now at [] }
+{
+    match labels.get(at) {
+        Some(label) => label.text(),
+        None => "",
+    }
+}
+
+// Appends the text of a row, behind the comma where another row stands before it.
+#[tactic(auto, using(crate::proofs::Floats::row, crate::proofs::Pieces::behind))]
+fn push_row(
+    alloc: Global,
+    text: &mut String,
+    at: usize,
+    label: &str,
+    row: &Row,
+) -> Result<(), AllocError>
+    ensures text { IfOk result (λ _. string_bytes text.new
+        ≡ string_bytes text.old ++ (comma_if (nat_lt 0 at) ++ compact_text (row_data label.now row.now))) }
+    ensures fits { IfOk result (λ _. RowFits row.now) }
+{
+    if at > 0 {
+        text.push(',')?;
+    }
+    let value = row_value(alloc, label, row)?;
+    push_value(alloc, text, &value)
+}
+
+// Appends the text of the rows with their labels, row by row, so that there is one row's value at a time.
+#[tactic(auto, using(crate::proofs::Pieces::next_row, hys_json::proofs::Fitted::all_next, hys_json::proofs::Fitted::all_done))]
+fn push_rows(
+    alloc: Global,
+    text: &mut String,
+    labels: &[Text],
+    rows: &[Row],
+) -> Result<(), AllocError>
+    ensures text { IfOk result (λ _. string_bytes text.new
+        ≡ string_bytes text.old ++ compact_text (array (items_of (rows_data labels.now rows.now)))) }
     ensures fit { IfOk result (λ _. AllByRecursion RowFits rows.now) }
 {
-    let mut values = Vec::new(alloc);
-    for (i, row) in rows.iter().enumerate() {
-        let label = match labels.get(i) {
-            Some(label) => label.text(),
-            None => "",
-        };
-        values.push(row_value(alloc, label, row)?)?;
+    text.push('[')?;
+    for (at, row) in rows.iter().enumerate() {
+        push_row(alloc, text, at, label_at(labels, at), row)?;
     }
-    Ok(values)
+    text.push(']')?;
+    Ok(())
 }
 
-fn system_value(alloc: Global, system: &System) -> Result<Value, AllocError>
-    ensures value { IfOk result (λ v. view v ≡ matrix_data system.now) }
-    ensures fit { IfOk result (λ _. NumbersFit system.now) }
+fn text_value(alloc: Global, text: &str) -> Result<Value, AllocError>
+    ensures { IfOk result (λ v. view v ≡ string text.now) }
 {
-    let columns = values(alloc, system.columns.items())?;
-    let next = values(alloc, system.next.items())?;
-    let outputs = values(alloc, system.outputs.items())?;
-    let rows = row_values(alloc, system.labels.items(), system.rows.items())?;
-    json!(in alloc; {
-        "columns": columns,
-        "format": "hysdel-mld",
-        "next": next,
-        "outputs": outputs,
-        "rows": rows,
-        "system": system.name.text(),
-        "version": 2u32,
-        "weight": system.weight
-    })
+    Ok(Value::String(String::from_str(alloc, text)?))
 }
 
 /// The matrix text of a system, version 2: one line of compact JSON with keys in byte order, numbers
 /// as strings, each term as its column and its factor, and each row with its label under `item`.
+#[tactic(auto, using(crate::proofs::Floats::columns, crate::proofs::Floats::nexts, crate::proofs::Floats::outputs))]
 pub fn write_system(alloc: Global, system: &System) -> Result<Vec<u8>, AllocError>
     ensures text { IfOk result (λ bytes. bytes.items ≡ matrix_text system.now) }
     ensures reads { IfOk result (λ bytes. ReadsAs bytes.items system.now) }
 {
-    let value = system_value(alloc, system)?;
-    let mut text = value.to_string(alloc)?;
-    text.push('\n')?;
+    let mut text = String::new(alloc);
+    text.push_str(r#"{"columns":"#)?;
+    push_list(alloc, &mut text, &Columns, system.columns.items())?;
+    text.push_str(r#","format":"hysdel-mld","next":"#)?;
+    push_list(alloc, &mut text, &Forms, system.next.items())?;
+    text.push_str(r#","outputs":"#)?;
+    push_list(alloc, &mut text, &Outputs, system.outputs.items())?;
+    text.push_str(r#","rows":"#)?;
+    push_rows(alloc, &mut text, system.labels.items(), system.rows.items())?;
+    text.push_str(r#","system":"#)?;
+    let name = text_value(alloc, system.name.text())?;
+    push_value(alloc, &mut text, &name)?;
+    text.push_str(r#","version":2,"weight":"#)?;
+    push_value(alloc, &mut text, &Value::from(system.weight))?;
+    text.push_str("}\n")?;
     Ok(text.into_bytes())
 }

@@ -1,5 +1,5 @@
 -- The items of a list, one after the other.
-use Rattle.std.proofs.Common.{drop-cons, ◌≡◌, ◌⊎◌, ℕ, suc, ◌+◌, ◌<◌, List, [], ◌∷◌, ◌++◌, Bool, true, false, cond, Option, Some, None, Result, Ok, Err, IfOk, length, get_or, drop, map, refl, sym, ◌∙◌, ap, ap₂, subst, arith, inl, inr}
+use Rattle.std.proofs.Common.{drop-cons, ◌≡◌, ℕ, suc, ◌+◌, ◌<◌, List, [], ◌∷◌, ◌++◌, Bool, true, false, cond, Some, None, Result, Ok, Err, IfOk, length, get_or, drop, map, refl, sym, ◌∙◌, ap, subst, arith, inl, inr}
 use Rattle.std.specs.Fmt.{decimal}
 use Rattle.serde_json.specs.Data.{Data}
 use Rattle.serde_json.specs.View.{view}
@@ -8,7 +8,7 @@ use Rattle.hys_json.specs.declared.fault.ValueFault.{ValueFault}
 use Rattle.hys_json.specs.declared.fault.ValueFault.TheVariants.{Shape, Number, Memory}
 use Rattle.hys_json.specs.Checks.{Check, shape, first_fault, under, IsWithin, IsFault, Judged}
 use Rattle.hys_json.specs.Values.{each_from, items_in, is_list}
-use Rattle.hys_json.proofs.Judging.{fault_first, no_fault_first, fails_first, read_under, fails_behind}
+use Rattle.hys_json.proofs.Judging.{no_fault_first, fails_first, read_under, fails_behind}
 
 add_one : (n : ℕ) → n + 1 ≡ suc n
 add_one n = omega arith

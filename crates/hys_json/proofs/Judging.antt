@@ -1,8 +1,8 @@
 -- One list of checks after another.
-use Rattle.std.proofs.Common.{◌≡◌, ◌⊎◌, ℕ, List, [], ◌∷◌, ◌++◌, Bool, true, false, cond, Option, Some, None, Result, Ok, Err, map, refl, sym, ◌∙◌, ap, inl, inr}
+use Rattle.std.proofs.Common.{◌≡◌, ℕ, List, [], ◌∷◌, ◌++◌, Bool, true, false, cond, Some, None, Result, Ok, Err, refl, ◌∙◌, ap, inl, inr}
 use Rattle.hys_json.specs.declared.fault.ValueFault.{ValueFault}
 use Rattle.hys_json.specs.declared.fault.ValueFault.TheVariants.{Shape, Number, Memory}
-use Rattle.hys_json.specs.Checks.{Check, first_fault, deeper, deeper_check, under, IsWithin, IsFault, Judged}
+use Rattle.hys_json.specs.Checks.{Check, first_fault, deeper, under, IsWithin, IsFault, Judged}
 
 pub fault_first : (xs ys : List Check) (f : ValueFault) → first_fault xs ≡ Some f → first_fault (xs ++ ys) ≡ Some f
 fault_first [] ys f e = absurd (cc)

@@ -1,12 +1,12 @@
 -- What is read of lists and objects.
-use Rattle.std.proofs.Common.{◌≡◌, ℕ, List, [], ◌∷◌, ◌++◌, Bool, true, false, bytes_eq, Result, Ok, Err, map, String, Global, string_bytes, Option, Some, None, is_some, cond, refl, sym, ap, subst}
-use Rattle.serde_json.specs.Data.{Data, Items, Members}
+use Rattle.std.proofs.Common.{◌≡◌, ℕ, List, [], ◌∷◌, ◌++◌, Bool, true, false, bytes_eq, Result, map, String, Global, string_bytes, Option, Some, None, cond, refl, sym, ap, subst}
+use Rattle.serde_json.specs.Data.{Data, Members}
 use Rattle.serde_json.specs.Find.{as_array, as_object}
 use Rattle.serde_json.specs.View.{view, items_of, items_view, members_view}
 use Rattle.serde_json.specs.declared.value.Value.{Value}
 use Rattle.hys_json.specs.declared.fault.ValueFault.{ValueFault}
 use Rattle.hys_json.specs.declared.fault.ValueFault.TheVariants.{Shape}
-use Rattle.hys_json.specs.Values.{list_of, items_by, items_in, is_list, keys_of, closed_checks, missing_checks, unknown_checks, is_one_of, has, keys_in, is_object}
+use Rattle.hys_json.specs.Values.{list_of, items_in, is_list, keys_of, closed_checks, missing_checks, unknown_checks, is_one_of, has, keys_in, is_object}
 use Rattle.hys_json.specs.Checks.{Check, first_fault, shape, IsFault, Judged}
 use Rattle.hys_json.proofs.Judging.{passes_first, fails_behind, then_second, fails_first}
 use Rattle.std.specs.Map.{keys_of as entry_keys}

@@ -1,2 +1,4 @@
 pub mod Checks
 pub mod Values
+pub mod Shown
+pub mod Plain

@@ -1,4 +1,3 @@
-use Rattle.std.proofs.Common.{rules, refl}
 use Rattle.serde_json.specs.View.{view}
 use Rattle.hys_json.proofs.Readings.{is_listed}
 use Rattle.hys_json.proofs.value.read_items.Goals as goal

@@ -10,7 +10,7 @@ pub has_fitting_parts : (a : Number) (n d : ℤ) → n ≡ a.num → unsigned_ab
 has_fitting_parts a n d e l f k = fits_yes a (subst (λ (z : ℤ). unsigned_abs z < 2 ^ 63) e l) k
 
 -- ---- all of a list, from what is still to be done
-drop_here : {X : Type 0} (xs : List X) (i : ℕ) (x : X) → i < length xs → x ≡ get_or xs i x → drop i xs ≡ x ∷ drop (i + 1) xs
+pub drop_here : {X : Type 0} (xs : List X) (i : ℕ) (x : X) → i < length xs → x ≡ get_or xs i x → drop i xs ≡ x ∷ drop (i + 1) xs
 drop_here xs i x l e = rw (drop-cons xs i x l, ← e) (ap (λ (n : ℕ). x ∷ drop n xs) one_more)
   where
     one_more : suc i ≡ i + 1
