@@ -299,6 +299,10 @@ answer_keys = codes "claim" ∷ codes "format" ∷ codes "tree" ∷ codes "versi
 abbrev pub version_checks : Data → List Check
 version_checks d = shape (is_number_by 1 (whole_by d)) ∷ []
 
+-- the claim of an answer
+abbrev pub claim_of : Data → Claim
+claim_of d = claim_in (member_in (codes "claim") d)
+
 unfoldable pub front_checks : Data → List Check
 front_checks d =
     closed_checks answer_keys d

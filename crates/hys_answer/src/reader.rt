@@ -5,7 +5,7 @@ ghost use Rattle.serde_json.specs.View.{view};
 ghost use Rattle.hys_json.specs.Checks.{Judged};
 ghost use Rattle.hys_json.specs.Values.{member_in, closed_checks};
 ghost use Rattle.hys_tree.specs.Multiplied.{AreMultiplied};
-ghost use Rattle.hys_answer.specs.Reading.{answer_keys, front_checks, back_checks, HasAnswerKeys, claim_in, tree_in, answer_checks, answer_in, version_checks, most_places};
+ghost use Rattle.hys_answer.specs.Reading.{answer_keys, front_checks, back_checks, HasAnswerKeys, tree_in, answer_checks, answer_in, version_checks, most_places, claim_of};
 ghost use Rattle.hys_answer.specs.Texts.{most_bytes, IsAnswerText, IsAnswerRead};
 
 use crate::claim::read_claim;
@@ -44,8 +44,7 @@ fn check_version(alloc: Global, value: &Value) -> Result<(), ValueFault>
 
 #[tactic(auto, using(hys_json::proofs::Judging::fails_first, hys_json::proofs::Judging::fails_second, hys_json::proofs::Judging::none_after_none, hys_json::proofs::Judging::fails_third, hys_json::proofs::Judging::fails_fourth, hys_json::proofs::Judging::fails_fifth, hys_json::proofs::Judging::none_of_five, hys_json::proofs::Judging::fails_under, hys_json::proofs::Judging::passes_under, hys_json::proofs::Judging::read_as, hys_json::proofs::Readings::closed_has), unfolding(crate::specs::Reading::front_checks))]
 fn read_front(alloc: Global, value: &Value) -> Result<Claim, ValueFault>
-    ensures { Judged (front_checks (view value.now)) (λ c.
-        c ≡ claim_in (member_in (codes "claim") (view value.now))) result }
+    ensures { Judged (front_checks (view value.now)) (λ c. c ≡ claim_of (view value.now)) result }
 {
     check_answer_keys(alloc, value)?;
     let claim = within(alloc, "claim", read_claim(alloc, member(value, "claim")))?;

@@ -19,6 +19,8 @@ use Rattle.hys_ast.specs.Operators.{level_of, groups}
 use Rattle.hys_ast.specs.Grammar.{Symbol, At, Negation, Signed, Atom, Is, Derives, number_of}
 use Rattle.hys_ast.specs.Bare.{bare}
 use Rattle.hys_ast.specs.declared.lexeme.Lexeme.{Lexeme}
+use Rattle.hys_ast.specs.declared.tree.Expr.{Expr}
+use Rattle.hys_ast.specs.Seen.{tree_of, maybe_tree_of}
 use Rattle.hys_ast.specs.Tree.{Tree, Number, Name, Truth, Cast, Unary, Binary, Decl, Shape, Plain, Wide, Choice, Item, Source}
 
 -- what stands behind the text before is these words, whatever follows them
@@ -159,6 +161,13 @@ bounds_words (Some low) None rest = rest
 bounds_words None (Some high) rest = rest
 bounds_words None None rest = rest
 
+abbrev pub bracket_words : Tree → Tree → List Spelling → List Spelling
+bracket_words low high = bounds_words (Some low) (Some high)
+
+-- as the type of the code has them: both or none
+abbrev pub written_bounds : Option Expr → Option Expr → List Spelling → List Spelling
+written_bounds low high = bounds_words (maybe_tree_of low) (maybe_tree_of high)
+
 abbrev pub value_words : Option Tree → List Spelling → List Spelling
 value_words None rest = rest
 value_words (Some e) rest = mark sign.EQUALS (codes "=") ∷ expr_words e rest
@@ -184,6 +193,10 @@ abbrev pub shape_words : Shape → List Spelling → List Spelling
 shape_words (Plain e) rest = expr_words e rest
 shape_words (Wide a b) rest = expr_words a (mark sign.OPEN_BRACKET (codes "[") ∷ expr_words b (mark sign.CLOSE_BRACKET (codes "]") ∷ rest))
 shape_words (Choice a b c) rest = word keyword.IF (codes "IF") ∷ expr_words a (word keyword.THEN (codes "THEN") ∷ expr_words b (else_words c rest))
+
+-- a guard with a tolerance of its own
+abbrev pub tolerant_words : Expr → Expr → List Spelling → List Spelling
+tolerant_words comparison tolerance = shape_words (Wide (tree_of comparison) (tree_of tolerance))
 
 abbrev pub target_words : Option (List ℕ) → List Spelling → List Spelling
 target_words None rest = rest
@@ -239,6 +252,20 @@ abbrev pub declared : Bool → List Decl → List Decl
 declared aux [] = []
 declared true (d ∷ ds) = if same_section section.Aux d.section then d ∷ declared true ds else declared true ds
 declared false (d ∷ ds) = if same_section section.Aux d.section then declared false ds else d ∷ declared false ds
+
+-- the declarations of AUX, or the others, in their blocks
+abbrev pub part_words : Bool → List Decl → List Spelling → List Spelling
+part_words aux ds = decls_words None (declared aux ds)
+
+-- a declaration more: what was to come with it in front comes without it, where one section may be open before and after
+abbrev pub WritesDecl : List ℕ → List ℕ → Bool → Option Section → Option Section → Decl → Type 0
+WritesDecl before after aux held new d = (ds : List Decl) → (rest : List Spelling) →
+    after ++ spaced (decls_words new (declared aux ds) rest) ≡ before ++ spaced (decls_words held (declared aux (d ∷ ds)) rest)
+
+-- an item more, likewise
+abbrev pub WritesItem : List ℕ → List ℕ → Option Section → Option Section → Item → Type 0
+WritesItem before after held new i = (is : List Item) → (rest : List Spelling) →
+    after ++ spaced (items_words new is rest) ≡ before ++ spaced (items_words held (i ∷ is) rest)
 
 abbrev pub head_words : List ℕ → List Spelling → List Spelling
 head_words system rest = word keyword.SYSTEM (codes "SYSTEM") ∷ name system ∷ opening ∷ word keyword.INTERFACE (codes "INTERFACE") ∷ opening ∷ rest

@@ -1,5 +1,6 @@
 -- The trees that the types of the code stand for.
-use Rattle.std.specs.Prelude.{map, Option, Some, None}
+use Rattle.std.specs.Prelude.{List, map, Option, Some, None}
+use denote.Ref.{Bor}
 use Rattle.hys_ast.specs.Tree as tree
 use Rattle.hys_ast.specs.declared.tree.Expr.{Expr}
 use Rattle.hys_ast.specs.declared.tree.Expr.TheVariants.{Number, Name, Truth, Cast, Unary', Binary'}
@@ -42,3 +43,7 @@ item_of i = record { section = i.section; name = i.name; place = i.place; shape 
 
 abbrev pub source_of : Source → tree.Source
 source_of s = record { system = s.system; decls = map decl_of s.decls; items = map item_of s.items }
+
+-- the trees of borrowed expressions
+abbrev pub trees_of : List (Bor Expr) → List tree.Tree
+trees_of es = map (λ e. tree_of e.now) es

@@ -1,10 +1,8 @@
-ghost use Rattle.std.specs.Prelude.{◌≡◌, ◌≤◌, true, ◌++◌, List, map, IfOk};
-ghost use Rattle.hys_lex.specs.Spaced.{Spelling, spaced};
-ghost use Rattle.hys_ast.specs.Operators.{level_of};
-ghost use Rattle.hys_ast.specs.Seen.{tree_of};
+ghost use Rattle.std.specs.Prelude.{◌≡◌, ◌≤◌, true, IfOk};
+ghost use Rattle.hys_ast.specs.Seen.{tree_of, trees_of};
 ghost use Rattle.hys_ast.specs.Nodes.{nodes};
 ghost use Rattle.hys_ast.specs.Printed.{Writes, truth_word, unary_mark, binary_mark, strength_at, unary_strength, strength, left_strength, right_strength, open_words, close_words, cast_words, expr_words, operand_words, is_loose};
-ghost use Rattle.hys_ast.specs.Spines.{behind_left, behind, is_single, Within};
+ghost use Rattle.hys_ast.specs.Spines.{behind_left, is_single, Within, WritesSpine};
 
 use crate::level::Level;
 use crate::tree::{BinaryOp, Expr, UnaryOp};
@@ -138,12 +136,10 @@ fn left_spine<'a>(
     out: &mut Vec<u8>,
     expr: &'a Expr,
 ) -> Result<(Vec<&'a Expr>, &'a Expr), AllocError>
-    ensures written { IfOk result (λ p. (rest : List Spelling) →
-        out.new.items ++ spaced (expr_words (tree_of p.1.now) (behind (map (λ e. tree_of e.now) p.0.items) rest)) ≡
-        out.old.items ++ spaced (expr_words (tree_of expr.now) rest)) }
+    ensures written { IfOk result (λ p. WritesSpine out.old.items out.new.items expr.now p.1.now p.0.items) }
     ensures single { IfOk result (λ p. is_single (tree_of p.1.now) ≡ true) }
     ensures smaller { IfOk result (λ p. nodes (tree_of p.1.now) ≤ nodes (tree_of expr.now)) }
-    ensures within { IfOk result (λ p. Within (nodes (tree_of expr.now)) (map (λ e. tree_of e.now) p.0.items)) }
+    ensures within { IfOk result (λ p. Within (nodes (tree_of expr.now)) (trees_of p.0.items)) }
 {
     let mut spine = Vec::new(alloc);
     let mut first = expr;

@@ -1,7 +1,7 @@
 ghost use Rattle.std.specs.Prelude.{◌≡◌, Some, IfOk};
 ghost use Rattle.hys_ast.specs.Seen.{tree_of, maybe_tree_of, decl_of, shape_of, item_of};
 ghost use Rattle.hys_ast.specs.Tree.{Wide};
-ghost use Rattle.hys_ast.specs.Printed.{Writes, kind_word, bounds_words, value_words, decl_words, else_words, shape_words, target_words, item_words};
+ghost use Rattle.hys_ast.specs.Printed.{Writes, kind_word, value_words, decl_words, else_words, shape_words, target_words, item_words, bracket_words, written_bounds, tolerant_words};
 
 use crate::print_expr::expression;
 use crate::source::{Decl, Item, Kind, Shape};
@@ -20,8 +20,7 @@ fn kind(kind: Kind) -> &'static [u8]
 }
 
 fn bracketed(alloc: Global, out: &mut Vec<u8>, low: &Expr, high: &Expr) -> Result<(), AllocError>
-    ensures { IfOk result (λ _.
-        Writes out.old.items out.new.items (bounds_words (Some (tree_of low.now)) (Some (tree_of high.now)))) }
+    ensures { IfOk result (λ _. Writes out.old.items out.new.items (bracket_words (tree_of low.now) (tree_of high.now))) }
 {
     put(out, b"[")?;
     expression(alloc, out, low)?;
@@ -36,8 +35,7 @@ fn bounds(
     low: &Option<Expr>,
     high: &Option<Expr>,
 ) -> Result<(), AllocError>
-    ensures { IfOk result (λ _.
-        Writes out.old.items out.new.items (bounds_words (maybe_tree_of low.now) (maybe_tree_of high.now))) }
+    ensures { IfOk result (λ _. Writes out.old.items out.new.items (written_bounds low.now high.now)) }
 {
     match (low, high) {
         (Some(low), Some(high)) => bracketed(alloc, out, low, high),
@@ -86,8 +84,7 @@ fn wide(
     comparison: &Expr,
     tolerance: &Expr,
 ) -> Result<(), AllocError>
-    ensures { IfOk result (λ _.
-        Writes out.old.items out.new.items (shape_words (Wide (tree_of comparison.now) (tree_of tolerance.now)))) }
+    ensures { IfOk result (λ _. Writes out.old.items out.new.items (tolerant_words comparison.now tolerance.now)) }
 {
     expression(alloc, out, comparison)?;
     put(out, b"[")?;

@@ -1,10 +1,9 @@
-ghost use Rattle.std.specs.Prelude.{◌≡◌, [], ◌∷◌, ◌++◌, List, None, map, IfOk};
-ghost use Rattle.hys_lex.specs.Spaced.{Spelling, spaced};
+ghost use Rattle.std.specs.Prelude.{◌≡◌, [], None, map, IfOk};
+ghost use Rattle.hys_lex.specs.Spaced.{spaced};
 ghost use Rattle.hys_ast.specs.Seen.{decl_of, item_of, source_of};
 ghost use Rattle.hys_ast.specs.Grammar.{number_of};
-ghost use Rattle.hys_ast.specs.Tree.{Decl as DeclTree, Item as ItemTree};
 ghost use Rattle.hys_ast.specs.Bare.{HasText, PrintOf};
-ghost use Rattle.hys_ast.specs.Printed.{Writes, section_word, end_words, same_section, is_open, begin_words, decls_words, items_words, declared, head_words, middle_words, source_words};
+ghost use Rattle.hys_ast.specs.Printed.{Writes, section_word, end_words, same_section, is_open, begin_words, items_words, head_words, middle_words, source_words, part_words, WritesDecl, WritesItem};
 
 use crate::print_parts::{declaration, item};
 use crate::source::{Decl, Item, Section, Source};
@@ -82,9 +81,7 @@ fn next_declaration(
     aux: bool,
     decl: &Decl,
 ) -> Result<Option<Section>, AllocError>
-    ensures { IfOk result (λ new. (ds : List DeclTree) → (rest : List Spelling) →
-        out.new.items ++ spaced (decls_words new (declared aux ds) rest) ≡ out.old.items ++
-        spaced (decls_words held (declared aux (decl_of decl.now ∷ ds)) rest)) }
+    ensures { IfOk result (λ new. WritesDecl out.old.items out.new.items aux held new (decl_of decl.now)) }
 {
     if same_section(Section::Aux, decl.section) != aux {
         return Ok(held);
@@ -101,8 +98,7 @@ fn declarations(
     aux: bool,
     decls: &[Decl],
 ) -> Result<(), AllocError>
-    ensures { IfOk result (λ _.
-        Writes out.old.items out.new.items (decls_words None (declared aux (map decl_of decls.now)))) }
+    ensures { IfOk result (λ _. Writes out.old.items out.new.items (part_words aux (map decl_of decls.now))) }
 {
     let mut held = None;
     for decl in decls {
@@ -117,9 +113,7 @@ fn next_item(
     held: Option<Section>,
     next: &Item,
 ) -> Result<Option<Section>, AllocError>
-    ensures { IfOk result (λ new. (is : List ItemTree) → (rest : List Spelling) →
-        out.new.items ++ spaced (items_words new is rest) ≡ out.old.items ++
-        spaced (items_words held (item_of next.now ∷ is) rest)) }
+    ensures { IfOk result (λ new. WritesItem out.old.items out.new.items held new (item_of next.now)) }
 {
     begin(out, held, next.section)?;
     item(alloc, out, next)?;

@@ -1,7 +1,7 @@
 -- The JSON value and the text of a system. Members stand in the byte order of their keys.
-use Rattle.std.specs.Prelude.{ℕ, List, [], ◌∷◌, ◌++◌, map, codes}
+use Rattle.std.specs.Prelude.{ℕ, List, [], ◌∷◌, ◌++◌, map, nat_lt, codes}
 use Rattle.serde_json.specs.Data.{Data, string, array, object, number, unsigned, no_items, item, no_members, member}
-use Rattle.serde_json.specs.Written.{compact_text}
+use Rattle.serde_json.specs.Written.{comma_if, compact_text}
 use Rattle.serde_json.specs.View.{items_of}
 use Rattle.hys_json.specs.Shown.{fraction_data, pair_data}
 use Rattle.hys_lin.specs.declared.form.Term.{Term}
@@ -63,6 +63,15 @@ abbrev pub rows_data : List (List ℕ) → List Row → List Data
 rows_data labels [] = []
 rows_data [] (r ∷ rs) = row_data [] r ∷ rows_data [] rs
 rows_data (l ∷ ls) (r ∷ rs) = row_data l r ∷ rows_data ls rs
+
+-- ---- texts of parts
+-- of a row, behind the comma where it isn't the first
+abbrev pub row_text : ℕ → List ℕ → Row → List ℕ
+row_text at label r = comma_if (nat_lt 0 at) ++ compact_text (row_data label r)
+
+-- of the list of rows
+abbrev pub rows_text : List (List ℕ) → List Row → List ℕ
+rows_text labels rs = compact_text (array (items_of (rows_data labels rs)))
 
 abbrev pub matrix_data : System → Data
 matrix_data s = object

@@ -1,5 +1,6 @@
 -- What a matrix text says: what is looked for in its JSON value, in order, and the system that the value stands for.
-use Rattle.std.specs.Prelude.{◌≡◌, ℕ, ◌+◌, ◌*◌, List, [], ◌∷◌, ◌++◌, Option, Some, None, Bool, true, false, not, ◌&&◌, ◌||◌, map, length, cond, codes, nat_eq, nat_lt, nat_le}
+use Rattle.std.specs.Prelude.{◌≡◌, ℕ, ◌+◌, ◌*◌, List, [], ◌∷◌, ◌++◌, Option, Some, None, Bool, true, false, not, ◌&&◌, ◌||◌, map, length, cond, codes, nat_eq, nat_lt, nat_le, Vec}
+use Rattle.std.specs.declared.alloc.Global.{Global}
 use Rattle.std.specs.Borrow.{Bor}
 use Rattle.std.proofs.Common.{get_or}
 use Rattle.std.specs.declared.cmp.Ordering.{Ordering}
@@ -15,6 +16,7 @@ use Rattle.hys_lin.specs.declared.form.Term.{Term}
 use Rattle.hys_lin.specs.declared.form.Affine.{Affine}
 use Rattle.hys_lin.specs.declared.form.Interval.{Interval}
 use Rattle.hys_lin.specs.declared.form.Row.{Row}
+use Rattle.hys_lin.specs.Over.{AreTermsOver}
 use Rattle.hys_json.specs.Checks.{Check, shape, under, first_fault}
 use Rattle.hys_json.specs.Values.{text_in, text_checks, word_checks, is_word_by, fraction_in, fraction_checks, whole_by, whole_in, whole_checks, items_in, is_list, list_checks, is_one_of, member_in, closed_checks}
 use Rattle.hys_sys.specs.declared.system.ColumnRole.{ColumnRole}
@@ -280,6 +282,10 @@ abbrev pub rows_checks : Bool → ℕ → Data → List Check
 rows_checks true columns d = list_checks first_row_checks after_first_row (record { columns = columns }) d
 rows_checks false columns d = list_checks row_checks after_row (record { columns = columns }) d
 
+-- the rows with their labels as they stand for what is read
+abbrev pub AreRowsBy : Bool → Data → Vec (Row × List ℕ) Global → Type 0
+AreRowsBy is_first d rs = rs.items ≡ rows_by is_first d
+
 abbrev pub row_of : Row × List ℕ → Row
 row_of p = p.0
 
@@ -372,3 +378,11 @@ pub record IsBack (d : Data) (b : Back) : Type 0 where
 -- the value has each key of a matrix text
 abbrev pub HasMatrixKeys : Data → Type 0
 HasMatrixKeys d = first_fault (closed_checks matrix_keys d) ≡ None
+
+-- ---- forms over so many columns
+abbrev pub IsOutputOver : ℕ → Output → Type 0
+IsOutputOver columns o = AreTermsOver columns o.form.terms
+
+-- an inequality
+abbrev pub IsRowOver : ℕ → Row → Type 0
+IsRowOver columns r = (r.eq ≡ false) × AreTermsOver columns r.terms

@@ -5,7 +5,7 @@ ghost use Rattle.std.specs.List.{AllByRecursion};
 ghost use Rattle.hys_base.specs.Differ.{Differ};
 ghost use Rattle.hys_lin.specs.Over.{AreTermsOver};
 ghost use Rattle.hys_sys.specs.System.{IsSystem, IsBox, InOrder, names, states};
-ghost use Rattle.hys_file.specs.Reading.{column_name, output_name, limit_of, most_weight};
+ghost use Rattle.hys_file.specs.Reading.{column_name, output_name, limit_of, most_weight, IsOutputOver, IsRowOver};
 
 use crate::column::{is_at_most, is_kinds_box, rank};
 use crate::form::{TermsBefore, is_zero};
@@ -191,12 +191,9 @@ fn columns_keep(alloc: Global, system: &System) -> Result<bool, AllocError>
 // Whether next values, outputs and rows are as many as they should be, and over the columns.
 fn forms_keep(system: &System) -> bool
     ensures each { IsTrue result → length system.now.next ≡ states system.now.columns }
-    ensures next { IsTrue result → AllByRecursion (λ f. AreTermsOver (length system.now.columns) f.terms)
-        system.now.next }
-    ensures outputs { IsTrue result → AllByRecursion (λ o. AreTermsOver (length system.now.columns) o.form.terms)
-        system.now.outputs }
-    ensures rows { IsTrue result → AllByRecursion (λ r. (r.eq ≡ false)
-        × AreTermsOver (length system.now.columns) r.terms) system.now.rows }
+    ensures next { IsTrue result → AllByRecursion (λ f. AreTermsOver (length system.now.columns) f.terms) system.now.next }
+    ensures outputs { IsTrue result → AllByRecursion (IsOutputOver (length system.now.columns)) system.now.outputs }
+    ensures rows { IsTrue result → AllByRecursion (IsRowOver (length system.now.columns)) system.now.rows }
     ensures labelled { IsTrue result → length system.now.labels ≡ length system.now.rows }
 {
     let count = system.columns.items().len() as u64;

@@ -1,11 +1,11 @@
 //! The whole matrix text.
 
-ghost use Rattle.std.specs.Prelude.{◌≡◌, ◌∷◌, map, length, IfOk};
+ghost use Rattle.std.specs.Prelude.{◌≡◌, map, length, IfOk};
 ghost use Rattle.serde_json.specs.View.{view};
 ghost use Rattle.hys_json.specs.Checks.{Judged};
 ghost use Rattle.hys_base.specs.Differ.{Differ};
 ghost use Rattle.hys_sys.specs.System.{states};
-ghost use Rattle.hys_file.specs.Reading.{next_checks, next_in, outputs_checks, outputs_in, rows_checks, rows_by, row_of, label_of, is_first_version, version_checks, matrix_checks, system_in, column_name, is_number_by, IsFront, IsBack, HasMatrixKeys, front_checks, forms_checks, back_checks, columns_of, AreForms, matrix_keys};
+ghost use Rattle.hys_file.specs.Reading.{next_checks, next_in, outputs_checks, outputs_in, rows_checks, row_of, label_of, version_checks, column_name, is_number_by, IsFront, IsBack, HasMatrixKeys, front_checks, forms_checks, back_checks, columns_of, AreForms, matrix_keys, AreRowsBy};
 ghost use Rattle.hys_json.specs.Values.{whole_by, closed_checks};
 
 use crate::column::{names_of, read_columns};
@@ -70,8 +70,7 @@ fn read_rows(
     columns: u64,
     value: &Value,
 ) -> Result<Vec<(Row, Text)>, ValueFault>
-    ensures { Judged (rows_checks is_first columns (view value.now)) (λ rs.
-        rs.items ≡ rows_by is_first (view value.now)) result }
+    ensures { Judged (rows_checks is_first columns (view value.now)) (AreRowsBy is_first (view value.now)) result }
 {
     if is_first {
         let mut before = FirstRowsBefore { columns };

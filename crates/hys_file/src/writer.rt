@@ -1,12 +1,11 @@
-ghost use Rattle.std.specs.Prelude.{◌≡◌, ◌++◌, [], nat_lt, string_bytes, IfOk};
+ghost use Rattle.std.specs.Prelude.{◌≡◌, ◌++◌, [], string_bytes, IfOk};
 ghost use Rattle.std.specs.List.{AllByRecursion};
 ghost use Rattle.std.proofs.Common.{get_or};
-ghost use Rattle.serde_json.specs.Data.{array, string};
-ghost use Rattle.serde_json.specs.View.{items_of, view};
-ghost use Rattle.serde_json.specs.Written.{comma_if, compact_text};
+ghost use Rattle.serde_json.specs.Data.{string};
+ghost use Rattle.serde_json.specs.View.{view};
 ghost use Rattle.hys_file.specs.Fitting.{ColumnFits, TermFits, FormFits, OutputFits, RowFits};
 ghost use Rattle.hys_file.specs.Texts.{ReadsAs};
-ghost use Rattle.hys_file.specs.Matrix.{kind_word, role_word, column_data, term_data, next_data, output_data, row_data, rows_data, matrix_text};
+ghost use Rattle.hys_file.specs.Matrix.{kind_word, role_word, column_data, term_data, next_data, output_data, row_data, matrix_text, row_text, rows_text};
 
 use hys_base::Text;
 use hys_json::{Writer, number_text, pair, push_list, push_value, write_list};
@@ -139,8 +138,7 @@ fn push_row(
     label: &str,
     row: &Row,
 ) -> Result<(), AllocError>
-    ensures text { IfOk result (λ _. string_bytes text.new
-        ≡ string_bytes text.old ++ (comma_if (nat_lt 0 at) ++ compact_text (row_data label.now row.now))) }
+    ensures text { IfOk result (λ _. string_bytes text.new ≡ string_bytes text.old ++ row_text at label.now row.now) }
     ensures fits { IfOk result (λ _. RowFits row.now) }
 {
     if at > 0 {
@@ -158,8 +156,7 @@ fn push_rows(
     labels: &[Text],
     rows: &[Row],
 ) -> Result<(), AllocError>
-    ensures text { IfOk result (λ _. string_bytes text.new
-        ≡ string_bytes text.old ++ compact_text (array (items_of (rows_data labels.now rows.now)))) }
+    ensures text { IfOk result (λ _. string_bytes text.new ≡ string_bytes text.old ++ rows_text labels.now rows.now) }
     ensures fit { IfOk result (λ _. AllByRecursion RowFits rows.now) }
 {
     text.push('[')?;

@@ -1,5 +1,6 @@
-ghost use Rattle.std.specs.Prelude.{◌≡◌, ◌≤◌, if◌then◌else◌, length, is_ok, IfOk, IfErr};
-ghost use Rattle.hys_io.specs.Outside.{Stays, raised};
+ghost use Rattle.std.specs.Prelude.{◌≡◌, ◌≤◌, length, is_ok, IfOk, IfErr};
+ghost use Rattle.hys_io.specs.Outside.{Stays};
+ghost use Rattle.hys_io.specs.Counts.{counted_read, counted_put};
 
 use crate::{Failure, Files};
 use std::fs::File;
@@ -53,9 +54,7 @@ impl<R: System + Drop> Files for DiskFiles<R> {
 
         // It counts exactly its faults, and has no need of memory.
         ensures fault { IfErr result (λ e. e ≡ Failure.Fault) }
-        ensures after { self.new ≡ record self.old {
-          read_faults = if is_ok result then self.old.read_faults else raised self.old.read_faults;
-        } }
+        ensures after { self.new ≡ counted_read (is_ok result) self.old }
     {
         match read_part(&self.system, name, at, into) {
             Ok(count) => Ok(count),
@@ -72,9 +71,7 @@ impl<R: System + Drop> Files for DiskFiles<R> {
 
         // It counts exactly its faults, and has no need of memory.
         ensures fault { IfErr result (λ e. e ≡ Failure.Fault) }
-        ensures after { self.new ≡ record self.old {
-          put_faults = if is_ok result then self.old.put_faults else raised self.old.put_faults;
-        } }
+        ensures after { self.new ≡ counted_put (is_ok result) self.old }
     {
         match fs::write(&self.system, name, bytes) {
             Ok(()) => Ok(()),

@@ -1,7 +1,8 @@
-ghost use Rattle.std.specs.Prelude.{◌≡◌, ◌+◌, ◌-◌, ◌≤◌, ◌⊎◌, ◌↔◌, min, if◌then◌else◌, length, take, drop, option_map, is_ok, IsNone, IsErrOf, OnOk, OnErr, IfOk, IfErr, Contains};
+ghost use Rattle.std.specs.Prelude.{◌≡◌, ◌-◌, ◌≤◌, ◌↔◌, min, length, take, drop, option_map, is_ok, IsErrOf, OnOk, OnErr, IfOk, IfErr, Contains};
 ghost use Rattle.std.specs.FinMap as map;
 ghost use Rattle.hys_io.specs.Entries.{files_of};
-ghost use Rattle.hys_io.specs.Outside.{Rose, Stays, raised, IfRead, IfPut, IfTorn};
+ghost use Rattle.hys_io.specs.Outside.{Stays, raised, IfRead};
+ghost use Rattle.hys_io.specs.InMemory.{given_files, IsRefusedRead, after_read, after_put, after_failed_put};
 
 use crate::schedule::Schedule;
 use crate::{Failure, Files};
@@ -39,13 +40,7 @@ impl MemFiles {
     /// Files with these names and bytes, where of a name that is given twice the last counts. The
     /// calls whose numbers are in `failing` will fail. Memory for later puts comes from `alloc`.
     pub fn new(alloc: Global, files: Vec<(String, Vec<u8>)>, failing: Vec<u64>) -> MemFiles
-        ensures { result ≡ record {
-          files = files_of files.items;
-          failing = failing.items;
-          calls = 0;
-          read_faults = 0;
-          put_faults = 0;
-        } }
+        ensures { result ≡ given_files files.items failing.items }
     {
         MemFiles {
             alloc,
@@ -80,13 +75,9 @@ impl Files for MemFiles {
         ensures stays { Stays self.old.read_faults self.new.read_faults }
 
         // It is refused where its number is listed or the name isn't there, and for nothing else.
-        ensures refused { IsErrOf result Failure.Fault
-            ↔ (Contains self.old.failing (raised self.old.calls) ⊎ IsNone (map.get self.old.files name.now)) }
+        ensures refused { IsErrOf result Failure.Fault ↔ IsRefusedRead self.old name.now }
         ensures fault { IfErr result (λ e. e ≡ Failure.Fault) }
-        ensures after { self.new ≡ record self.old {
-          calls = raised self.old.calls;
-          read_faults = if is_ok result then self.old.read_faults else raised self.old.read_faults;
-        } }
+        ensures after { self.new ≡ after_read (is_ok result) self.old }
     {
         if self.schedule.fails() {
             self.read_faults = self.read_faults.saturating_add(1);
@@ -107,14 +98,8 @@ impl Files for MemFiles {
 
         // The outside refuses it exactly where its number is listed. A refused put changes no file.
         ensures refused { IsErrOf result Failure.Fault ↔ Contains self.old.failing (raised self.old.calls) }
-        ensures after_ok { OnOk result (self.new ≡ record self.old {
-          files = map.insert self.old.files name.now bytes.now;
-          calls = raised self.old.calls;
-        }) }
-        ensures after_fault { IsErrOf result Failure.Fault → self.new ≡ record self.old {
-          calls = raised self.old.calls;
-          put_faults = raised self.old.put_faults;
-        } }
+        ensures after_ok { OnOk result (self.new ≡ after_put self.old name.now bytes.now) }
+        ensures after_fault { IsErrOf result Failure.Fault → self.new ≡ after_failed_put self.old }
         ensures after_memory { IsErrOf result Failure.Memory → self.new ≡ record self.old {
           calls = raised self.old.calls;
         } }

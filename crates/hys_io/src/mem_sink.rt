@@ -1,5 +1,6 @@
-ghost use Rattle.std.specs.Prelude.{◌≡◌, ◌++◌, ◌<◌, ◌≤◌, ◌↔◌, [], length, take, IsErrOf, OnOk, OnErr, IfOk, Contains};
-ghost use Rattle.hys_io.specs.Outside.{Rose, Stays, raised, IfAppended};
+ghost use Rattle.std.specs.Prelude.{◌≡◌, ◌<◌, ◌≤◌, ◌↔◌, [], length, take, IsErrOf, OnOk, OnErr, IfOk, Contains};
+ghost use Rattle.hys_io.specs.Outside.{Stays, raised};
+ghost use Rattle.hys_io.specs.InMemory.{Appends, after_write, after_failed_write};
 
 use crate::schedule::Schedule;
 use crate::{Failure, Sink};
@@ -57,8 +58,7 @@ impl Sink for MemSink {
 
     fn write(&mut self, piece: &[u8]) -> Result<usize, Failure>
         ensures some { 0 < length piece.now → IfOk result (λ count. 0 < count) }
-        ensures appended { IfOk result (λ count.
-            IfAppended (Some self.old.written) (Some self.new.written) (take count piece.now)) }
+        ensures appended { IfOk result (λ count. Appends self.old self.new (take count piece.now)) }
         ensures unchanged { OnErr result (Some self.new.written ≡ Some self.old.written) }
         ensures counted { self.old.faults ≤ self.new.faults }
         ensures stays { Stays self.old.faults self.new.faults }
@@ -66,14 +66,8 @@ impl Sink for MemSink {
         // It fails exactly where its number is listed, and else takes the whole piece.
         ensures refused { IsErrOf result Failure.Fault ↔ Contains self.old.failing (raised self.old.calls) }
         ensures whole { IfOk result (λ count. count ≡ length piece.now) }
-        ensures after_ok { OnOk result (self.new ≡ record self.old {
-          written = self.old.written ++ piece.now;
-          calls = raised self.old.calls;
-        }) }
-        ensures after_fault { IsErrOf result Failure.Fault → self.new ≡ record self.old {
-          calls = raised self.old.calls;
-          faults = raised self.old.faults;
-        } }
+        ensures after_ok { OnOk result (self.new ≡ after_write self.old piece.now) }
+        ensures after_fault { IsErrOf result Failure.Fault → self.new ≡ after_failed_write self.old }
         ensures after_memory { IsErrOf result Failure.Memory → self.new ≡ record self.old {
           calls = raised self.old.calls;
         } }

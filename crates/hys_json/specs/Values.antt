@@ -1,8 +1,12 @@
 -- The readings of JSON values: texts, fractions, whole numbers, lists, closed objects.
-use Rattle.std.specs.Prelude.{ℕ, suc, ◌^◌, List, [], ◌∷◌, ◌++◌, Option, Some, None, is_some, Bool, true, false, cond, nat_lt, Result, Ok, Err}
+use Rattle.std.specs.Prelude.{◌≡◌, ℕ, suc, ◌^◌, map, String, Vec, List, [], ◌∷◌, ◌++◌, Option, Some, None, is_some, Bool, true, false, cond, nat_lt, Result, Ok, Err}
+use denote.Ref.{Bor}
+use Rattle.std.specs.declared.alloc.Global.{Global}
 use Rattle.std.specs.Fmt.{decimal}
 use Rattle.std.specs.Str.{bytes_eq}
 use Rattle.serde_json.specs.Data.{Data, null, boolean, number as numeral, string, array, object, unsigned, negative, float, Items, no_items, item, Members, no_members, member}
+use Rattle.serde_json.specs.declared.value.Value.{Value}
+use Rattle.serde_json.specs.View.{members_view}
 use Rattle.serde_json.specs.Find.{get, as_str, as_array, as_object}
 use Rattle.hys_number.specs.Number.{Number}
 use Rattle.hys_number.specs.Ops.{whole}
@@ -135,3 +139,15 @@ unknown_checks known (key ∷ keys) = deeper_check key (shape (is_one_of known k
 -- an object that has each of the keys, which are given in byte order, and no other
 unfoldable pub closed_checks : List (List ℕ) → Data → List Check
 closed_checks keys d = shape (is_object d) ∷ (missing_checks keys d ++ unknown_checks keys (keys_in d))
+
+-- each item of a list as what it stands for
+abbrev pub AreRead : {A : Type 0} → (Data → A) → Data → Vec A Global → Type 0
+AreRead meant d xs = xs.items ≡ map meant (items_in d)
+
+-- the keys that are borrowed
+abbrev pub lent_keys : List (Bor (List ℕ)) → List (List ℕ)
+lent_keys keys = map (λ k. k.now) keys
+
+-- the keys of an object's entries
+abbrev pub entry_keys : List (String Global × Value) → List (List ℕ)
+entry_keys entries = keys_of (members_view entries)

@@ -1,8 +1,8 @@
-ghost use Rattle.std.specs.Prelude.{◌≡◌, List, map, IfOk};
+ghost use Rattle.std.specs.Prelude.{◌≡◌, List, IfOk};
 ghost use Rattle.serde_json.specs.Data.{Data};
 ghost use Rattle.serde_json.specs.View.{view};
 ghost use Rattle.hys_json.specs.Checks.{Check, Judged};
-ghost use Rattle.hys_json.specs.Values.{items_in, list_checks};
+ghost use Rattle.hys_json.specs.Values.{list_checks, AreRead};
 
 use crate::fault::{ValueFault, within_item};
 use crate::value::read_items;
@@ -38,8 +38,7 @@ pub fn read_list<R: Reader>(
 ) -> Result<Vec<R::Item>, ValueFault>
 where
     R::Item: Drop,
-    ensures { Judged (list_checks R.asked R.after reader.old (view value.now)) (λ xs.
-        xs.items ≡ map R.meant (items_in (view value.now))) result }
+    ensures { Judged (list_checks R.asked R.after reader.old (view value.now)) (AreRead R.meant (view value.now)) result }
 {
     let values = read_items(alloc, value)?;
     let mut items = Vec::new(alloc);

@@ -1,8 +1,8 @@
-ghost use Rattle.std.specs.Prelude.{◌≡◌, ◌⊎◌, [], ◌∷◌, IfOk, IsTrue, map};
-ghost use Rattle.serde_json.specs.View.{view, members_view};
+ghost use Rattle.std.specs.Prelude.{◌≡◌, ◌⊎◌, [], ◌∷◌, IfOk, IsTrue};
+ghost use Rattle.serde_json.specs.View.{view};
 ghost use Rattle.hys_json.specs.declared.fault.ValueFault.TheVariants.{Shape, Memory};
 ghost use Rattle.hys_json.specs.Checks.{Judged};
-ghost use Rattle.hys_json.specs.Values.{closed_checks, missing_checks, unknown_checks, is_one_of, has, member_in, keys_of};
+ghost use Rattle.hys_json.specs.Values.{closed_checks, missing_checks, unknown_checks, is_one_of, has, member_in, lent_keys, entry_keys};
 
 use crate::fault::ValueFault;
 use crate::value::here;
@@ -35,7 +35,7 @@ fn has_key(value: &Value, key: &str) -> bool
 }
 
 fn check_missing(alloc: Global, value: &Value, keys: &[&str]) -> Result<(), ValueFault>
-    ensures { Judged (missing_checks (map (λ k. k.now) keys.now) (view value.now)) (λ _. Unit {0}) result }
+    ensures { Judged (missing_checks (lent_keys keys.now) (view value.now)) (λ _. Unit {0}) result }
 {
     for key in keys {
         if !has_key(value, key) {
@@ -46,7 +46,7 @@ fn check_missing(alloc: Global, value: &Value, keys: &[&str]) -> Result<(), Valu
 }
 
 fn is_one_of(keys: &[&str], key: &str) -> bool
-    ensures { result ≡ is_one_of (map (λ k. k.now) keys.now) key.now }
+    ensures { result ≡ is_one_of (lent_keys keys.now) key.now }
 {
     for known in keys {
         if *known == key {
@@ -62,8 +62,7 @@ fn check_unknown(
     members: &Map<String, Value>,
     keys: &[&str],
 ) -> Result<(), ValueFault>
-    ensures { Judged (unknown_checks (map (λ k. k.now) keys.now) (keys_of (members_view members.now.entries)))
-        (λ _. Unit {0}) result }
+    ensures { Judged (unknown_checks (lent_keys keys.now) (entry_keys members.now.entries)) (λ _. Unit {0}) result }
 {
     for key in members.keys() {
         if !is_one_of(keys, key.as_str()) {
@@ -76,7 +75,7 @@ fn check_unknown(
 /// Whether the value is an object with each of these keys, which are given in byte order, and no
 /// other.
 pub fn check_keys(alloc: Global, value: &Value, keys: &[&str]) -> Result<(), ValueFault>
-    ensures { Judged (closed_checks (map (λ k. k.now) keys.now) (view value.now)) (λ _. Unit {0}) result }
+    ensures { Judged (closed_checks (lent_keys keys.now) (view value.now)) (λ _. Unit {0}) result }
 {
     match value.as_object() {
         Some(members) => {

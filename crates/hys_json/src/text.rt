@@ -1,8 +1,8 @@
 ghost use Rattle.std.specs.Prelude.{◌≡◌, ◌++◌, false, map, nat_lt, string_bytes, IfOk};
 ghost use Rattle.std.specs.List.{AllByRecursion};
-ghost use Rattle.serde_json.specs.Data.{array};
 ghost use Rattle.serde_json.specs.View.{items_of, view};
 ghost use Rattle.serde_json.specs.Written.{comma_if, compact_text, has_float, items_have_float};
+ghost use Rattle.hys_json.specs.Shown.{list_text};
 
 use crate::writer::Writer;
 use serde_json::Value;
@@ -37,8 +37,7 @@ pub fn push_list<W: Writer>(
     items: &[W::Item],
 ) -> Result<(), AllocError>
     requires { items_have_float (items_of (map W.shown items.now)) ≡ false }
-    ensures text { IfOk result (λ _.
-        string_bytes text.new ≡ string_bytes text.old ++ compact_text (array (items_of (map W.shown items.now)))) }
+    ensures text { IfOk result (λ _. string_bytes text.new ≡ string_bytes text.old ++ list_text W.shown items.now) }
     ensures fit { IfOk result (λ _. AllByRecursion W.fit items.now) }
 {
     text.push('[')?;

@@ -1,6 +1,6 @@
 -- The cut of a text into pieces, each the longest match at its place, and what stops it.
 use Rattle.std.specs.Prelude.{◌≡◌, ◌⊎◌, ℕ, ◌+◌, ◌-◌, ◌<◌, ◌≤◌, List, [], ◌∷◌, length, take, drop, slice_range}
-use Rattle.hys_lex.specs.Pieces.{PieceKind, Blank, Block, Line, Lexeme, IsPiece, IsTokenText, IsShort, IsWithinLimit, Opens, ClosesAt}
+use Rattle.hys_lex.specs.Pieces.{PieceKind, Blank, Block, Line, Lexeme, IsPiece, IsTokenText, IsShort, IsWithinLimit, Opens, IsUnclosed}
 use Rattle.hys_lex.specs.declared.token.Token.{Token}
 use Rattle.hys_lex.specs.declared.token.TokenKind.TheVariants.{Name, Literal}
 use Rattle.hys_lex.specs.declared.cut.LexFault.{LexFault}
@@ -59,7 +59,7 @@ pub record NoPiece (rest : List ℕ) : Type 0 where
 -- a `/*` with no `*/` after it
 pub record NoEnd (rest : List ℕ) : Type 0 where
   pub opens : Opens rest
-  pub open_to_end : (i : ℕ) → 2 ≤ i → ClosesAt rest i → ⊥
+  pub open_to_end : IsUnclosed rest
 
 -- a name over 64 bytes or a literal over 32 characters
 abbrev pub TooLong : List ℕ → Type 0

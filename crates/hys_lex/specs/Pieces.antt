@@ -57,6 +57,10 @@ Opens bytes = (slice_index bytes 0 ≡ 47) × (slice_index bytes 1 ≡ 42)
 abbrev pub ClosesAt : List ℕ → ℕ → Type 0
 ClosesAt bytes i = (slice_index bytes i ≡ 42) × (slice_index bytes (i + 1) ≡ 47)
 
+-- no `*/` stands behind the first two bytes
+abbrev pub IsUnclosed : List ℕ → Type 0
+IsUnclosed bytes = (i : ℕ) → 2 ≤ i → ClosesAt bytes i → ⊥
+
 -- from `/*` to the first `*/` after it
 pub record IsBlock (bytes : List ℕ) : Type 0 where
   pub long : 4 ≤ length bytes

@@ -1,5 +1,6 @@
 -- The keywords and the signs, each known by its place in its list.
-use Rattle.std.specs.Prelude.{◌≡◌, ℕ, ◌<◌, List, [], ◌∷◌, length, slice_index_or, codes}
+use Rattle.std.specs.Prelude.{◌≡◌, ℕ, ◌<◌, List, [], ◌∷◌, length, map, slice_index_or, codes}
+use denote.Ref.{Bor}
 
 unfoldable pub keywords : List (List ℕ)
 keywords =
@@ -17,3 +18,11 @@ signs =
 -- the bytes stand at place k of the list
 abbrev pub IsAt : List (List ℕ) → ℕ → List ℕ → Type 0
 IsAt words k bytes = (k < length words) × (slice_index_or words k [] ≡ bytes)
+
+-- the bytes stand at no place of the list
+abbrev pub IsNowhere : List (List ℕ) → List ℕ → Type 0
+IsNowhere words bytes = (k : ℕ) → IsAt words k bytes → ⊥
+
+-- the words that are borrowed
+abbrev pub lent : List (Bor (List ℕ)) → List (List ℕ)
+lent words = map (λ w. w.now) words

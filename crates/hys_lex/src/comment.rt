@@ -1,11 +1,10 @@
 ghost use Rattle.std.specs.Prelude.{◌≡◌, ◌≢◌, ◌<◌, ◌≤◌, ℕ, length, take, slice_index, MatchOption};
-ghost use Rattle.hys_lex.specs.Pieces.{Opens, ClosesAt, IsBlock};
+ghost use Rattle.hys_lex.specs.Pieces.{IsBlock, IsUnclosed, Opens};
 
 /// The length of the comment that a `/*` at the front of the text begins, up to the next `*/`.
 pub fn block_len(text: &[u8]) -> Option<usize>
     requires { Opens text.now }
-    ensures { MatchOption result ((i : ℕ) → 2 ≤ i → ClosesAt text.now i → ⊥) (λ n. (n ≤ length text.now) ×
-        IsBlock (take n text.now)) }
+    ensures { MatchOption result (IsUnclosed text.now) (λ n. (n ≤ length text.now) × IsBlock (take n text.now)) }
 {
     for i in 3..text.len() {
         if text[i - 1] == b'*' && text[i] == b'/' {

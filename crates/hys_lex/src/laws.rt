@@ -14,8 +14,7 @@ use crate::token::Token;
 pub fn one_cut()
     ensures cut { (text : List ℕ) (a b : List CutToken) → Cut text a → Cut text b → a ≡ b }
     ensures fault { (text : List ℕ) (a b : Fault) → IsFirstFault text a → IsFirstFault text b → a ≡ b }
-    ensures apart { (text : List ℕ) (fault : Fault) (tokens : List CutToken) → IsFirstFault text fault →
-        Cut text tokens → ⊥ }
+    ensures apart { (text : List ℕ) (f : Fault) (tokens : List CutToken) → IsFirstFault text f → Cut text tokens → ⊥ }
 {}
 
 /// A text has a cut or a first fault: with the law above, exactly one of the two.

@@ -1,5 +1,5 @@
-ghost use Rattle.std.specs.Prelude.{◌≡◌, ◌<◌, ◌≤◌, ℕ, MatchOption, length, take, map};
-ghost use Rattle.hys_lex.specs.Words.{keywords, signs, IsAt};
+ghost use Rattle.std.specs.Prelude.{◌<◌, ◌≤◌, ℕ, MatchOption, length, take};
+ghost use Rattle.hys_lex.specs.Words.{keywords, signs, IsAt, IsNowhere, lent};
 
 const KEYWORDS: [&[u8]; 24] = [
     b"SYSTEM",
@@ -36,8 +36,7 @@ const SIGNS: [&[u8]; 25] = [
 // The place of the word in the list.
 fn place(words: &[&[u8]], word: &[u8]) -> Option<u8>
     requires { length words.now ≤ 256 }
-    ensures { MatchOption result ((k : ℕ) → IsAt (map (λ w. w.now) words.now) k word.now →
-        ⊥) (λ k. IsAt (map (λ w. w.now) words.now) k word.now) }
+    ensures { MatchOption result (IsNowhere (lent words.now) word.now) (λ k. IsAt (lent words.now) k word.now) }
 {
     for (k, candidate) in words.iter().enumerate() {
         if *candidate == word {
@@ -52,10 +51,9 @@ fn place(words: &[&[u8]], word: &[u8]) -> Option<u8>
 fn longest(words: &[&[u8]], text: &[u8]) -> (u8, usize)
     requires few { length words.now ≤ 256 }
     requires some { 0 < length text.now }
-    ensures most { (k : ℕ) (size : ℕ) → size ≤ length text.now →
-        IsAt (map (λ w. w.now) words.now) k (take size text.now) → size ≤ result.1 }
+    ensures most { (k size : ℕ) → size ≤ length text.now → IsAt (lent words.now) k (take size text.now) → size ≤ result.1 }
     ensures within { result.1 ≤ length text.now }
-    ensures found { 0 < result.1 → IsAt (map (λ w. w.now) words.now) result.0 (take result.1 text.now) }
+    ensures found { 0 < result.1 → IsAt (lent words.now) result.0 (take result.1 text.now) }
 {
     let first = text[0];
     let mut best = (0, 0);

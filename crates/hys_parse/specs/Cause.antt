@@ -35,3 +35,11 @@ abbrev pub IsCause : List ℕ → List Token → ParseFault → Type 0
 IsCause text tokens (Deep k) = IsFirstDeep tokens k
 IsCause text tokens (Syntax k) = IsUngrammatical text tokens k
 IsCause text tokens Memory = Unit {0}
+
+-- some tree derives the tokens
+abbrev pub HasTree : List ℕ → List Token → Type 0
+HasTree text tokens = (tree : Source) × IsTreeOf text tokens tree
+
+-- the tokens have a syntax fault
+abbrev pub HasSyntaxFault : List ℕ → List Token → Type 0
+HasSyntaxFault text tokens = (k : ℕ) × IsUngrammatical text tokens k

@@ -79,6 +79,10 @@ name_turn room s k ds ts = do
   d ← decl_at room s k ts
   choose (after (token.Sign sign.COMMA) d.1) (Ok (ds ++ d.0 ∷ [], false, d.1)) (λ next. Ok (ds ++ d.0 ∷ [], true, next))
 
+-- the names of one kind, turn by turn
+abbrev pub names_at : ℕ → Section → Kind → List Decl → List Lexeme → Read (List Decl)
+names_at room s k ds ts = all_turns (name_turn room s k) ds ts
+
 -- REAL or BOOL
 unfoldable pub kind_at : List Lexeme → Option (Kind × List Lexeme)
 kind_at [] = None
@@ -93,6 +97,10 @@ line_at room s k ds ts = do
 
 unfoldable pub line_turn : ℕ → Section → List Decl → List Lexeme → Turn (List Decl)
 line_turn room s ds ts = choose (kind_at ts) (Ok (ds, false, ts)) (λ p. line_at room s p.0 ds p.1)
+
+-- the lines of a section, turn by turn
+abbrev pub lines_at : ℕ → Section → List Decl → List Lexeme → Read (List Decl)
+lines_at room s ds ts = all_turns (line_turn room s) ds ts
 
 unfoldable pub ite_at : ℕ → List Lexeme → Read Shape
 ite_at room ts = do
@@ -198,6 +206,10 @@ declares section.Continuous = false
 declares section.OutputItem = false
 declares section.Must = false
 
+-- the items of a section, turn by turn
+abbrev pub item_turns : ℕ → Section → List Item → List Lexeme → Read (List Item)
+item_turns room s items ts = all_turns (item_turn room s) items ts
+
 unfoldable pub decls_at : ℕ → Section → Draft → List Lexeme → Read Draft
 decls_at room s d ts = do
   decls ← all_turns (line_turn room s) d.decls ts
@@ -233,6 +245,10 @@ section_at p (l ∷ ts) = choose (section_in p l.kind) None (λ s. Some (s, ts))
 unfoldable pub section_turn : ℕ → Part → Draft → List Lexeme → Turn Draft
 section_turn room p d ts = choose (section_at p ts) (Ok (d, false, ts))
     (λ q. if among q.0 d.seen then Err (length ts) else (block_at room q.0 d q.1 >>= λ r. Ok (r.0, true, r.1)))
+
+-- the sections, turn by turn
+abbrev pub sections_at : ℕ → Part → Draft → List Lexeme → Read Draft
+sections_at room p d ts = all_turns (section_turn room p) d ts
 
 -- the sections of a part, with its braces
 unfoldable pub part_at : ℕ → Part → List Decl → List Lexeme → Read Draft

@@ -1,10 +1,11 @@
 //! Declared names and the lines that they stand in.
 
-ghost use Rattle.std.specs.Prelude.{◌≡◌, List, length, map, IfOk, IfSome, IsTrue, ◌<◌, ◌≤◌};
-ghost use Rattle.hys_ast.specs.Seen.{tree_of, maybe_tree_of, decl_of};
+ghost use Rattle.std.specs.Prelude.{◌≡◌, length, map, IfOk, IfSome, IsTrue, ◌<◌, ◌≤◌};
+ghost use Rattle.hys_ast.specs.Seen.{decl_of};
 ghost use Rattle.hys_parse.specs.Reading.{Gives, Finds};
 ghost use Rattle.hys_ast.specs.Grammar as grammar;
 ghost use Rattle.hys_parse.specs.Sections as reading;
+ghost use Rattle.hys_parse.specs.Views.{turned_decls, read_decls, declaring};
 
 use crate::ahead::{after, expect, split};
 use crate::descent::expression;
@@ -37,8 +38,7 @@ fn declared(
     high: Option<Expr>,
     value: Option<Expr>,
 ) -> Result<Decl, AllocError>
-    ensures { IfOk result (λ d. decl_of d ≡
-        reading.decl_with section kind name.now (maybe_tree_of low) (maybe_tree_of high) (maybe_tree_of value)) }
+    ensures { IfOk result (λ d. decl_of d ≡ declaring section kind name.now low high value) }
 {
     Ok(Decl {
         section,
@@ -146,8 +146,7 @@ fn name_turn(
     mut decls: Vec<Decl>,
     tokens: &[Lexeme],
 ) -> Result<(Vec<Decl>, bool, &[Lexeme]), Stop>
-    ensures gives { Gives (λ p. (map decl_of p.0.items, p.1, p.2.now)) result
-        (reading.name_turn room section kind (map decl_of decls.items) tokens.now) }
+    ensures gives { Gives turned_decls result (reading.name_turn room section kind (map decl_of decls.items) tokens.now) }
     ensures shorter { IfOk result (λ p. length p.2.now < length tokens.now) }
 {
     let (found, rest) = declaration(alloc, room, section, kind, tokens)?;
@@ -166,8 +165,7 @@ fn names(
     decls: Vec<Decl>,
     tokens: &[Lexeme],
 ) -> Result<(Vec<Decl>, &[Lexeme]), Stop>
-    ensures gives { Gives (λ p. (map decl_of p.0.items, p.1.now)) result
-        (reading.all_turns (reading.name_turn room section kind) (map decl_of decls.items) tokens.now) }
+    ensures gives { Gives read_decls result (reading.names_at room section kind (map decl_of decls.items) tokens.now) }
     ensures shorter { IfOk result (λ p. length p.1.now < length tokens.now) }
 {
     all_turns!(name_turn(alloc, room, section, kind), decls, tokens)
@@ -203,8 +201,7 @@ fn line(
     decls: Vec<Decl>,
     tokens: &[Lexeme],
 ) -> Result<(Vec<Decl>, bool, &[Lexeme]), Stop>
-    ensures gives { Gives (λ p. (map decl_of p.0.items, p.1, p.2.now)) result
-        (reading.line_at room section kind (map decl_of decls.items) tokens.now) }
+    ensures gives { Gives turned_decls result (reading.line_at room section kind (map decl_of decls.items) tokens.now) }
     ensures shorter { IfOk result (λ p. length p.2.now < length tokens.now) }
 {
     let (found, rest) = names(alloc, room, section, kind, decls, tokens)?;
@@ -220,8 +217,7 @@ fn line_turn(
     decls: Vec<Decl>,
     tokens: &[Lexeme],
 ) -> Result<(Vec<Decl>, bool, &[Lexeme]), Stop>
-    ensures gives { Gives (λ p. (map decl_of p.0.items, p.1, p.2.now)) result
-        (reading.line_turn room section (map decl_of decls.items) tokens.now) }
+    ensures gives { Gives turned_decls result (reading.line_turn room section (map decl_of decls.items) tokens.now) }
     ensures shorter { IfOk result (λ p. length p.2.now ≤ length tokens.now) }
     ensures takes { IfOk result (λ p. IsTrue p.1 → length p.2.now < length tokens.now) }
 {
@@ -239,8 +235,7 @@ pub fn declarations(
     decls: Vec<Decl>,
     tokens: &[Lexeme],
 ) -> Result<(Vec<Decl>, &[Lexeme]), Stop>
-    ensures gives { Gives (λ p. (map decl_of p.0.items, p.1.now)) result
-        (reading.all_turns (reading.line_turn room section) (map decl_of decls.items) tokens.now) }
+    ensures gives { Gives read_decls result (reading.lines_at room section (map decl_of decls.items) tokens.now) }
     ensures shorter { IfOk result (λ p. length p.1.now ≤ length tokens.now) }
 {
     all_turns!(line_turn(alloc, room, section), decls, tokens)

@@ -1,8 +1,8 @@
-ghost use Rattle.std.specs.Prelude.{◌≡◌, suc, List, length, IfOk, MatchResult, ◌<◌, ◌≤◌};
-ghost use Rattle.hys_ast.specs.Seen.{tree_of};
+ghost use Rattle.std.specs.Prelude.{◌≡◌, suc, length, IfOk, MatchResult, ◌<◌};
 ghost use Rattle.hys_parse.specs.declared.stop.Stop.TheVariants.{Left};
 ghost use Rattle.hys_parse.specs.Reading.{Gives, cast_at, group_at, atom_at, signed_at, negation_at, operand_at, binary_at, nested};
 ghost use Rattle.hys_parse.specs.Sections.{expr_at};
+ghost use Rattle.hys_parse.specs.Views.{read_tree};
 
 use crate::ahead::{after, expect, joint, not_ahead, sign_ahead, split, truth};
 use crate::stop::Stop;
@@ -22,7 +22,7 @@ fn deeper(room: usize, tokens: &[Lexeme]) -> Result<usize, Stop>
 
 #[tactic(auto, unfolding(crate::specs::Reading::cast_at))]
 fn cast(tokens: &[Lexeme]) -> Result<(Expr, &[Lexeme]), Stop>
-    ensures gives { Gives (λ p. (tree_of p.0, p.1.now)) result (cast_at tokens.now) }
+    ensures gives { Gives read_tree result (cast_at tokens.now) }
     ensures shorter { IfOk result (λ p. length p.1.now < length tokens.now) }
 {
     let (name, rest) = expect(TokenKind::Name, tokens)?;
@@ -33,7 +33,7 @@ fn cast(tokens: &[Lexeme]) -> Result<(Expr, &[Lexeme]), Stop>
 #[cycle(grammar)]
 #[tactic(auto, unfolding(crate::specs::Reading::group_at, crate::specs::Reading::whole_at, crate::specs::Reading::nested, crate::specs::Reading::reader))]
 fn group(alloc: Global, room: usize, tokens: &[Lexeme]) -> Result<(Expr, &[Lexeme]), Stop>
-    ensures gives { Gives (λ p. (tree_of p.0, p.1.now)) result (group_at (nested room) tokens.now) }
+    ensures gives { Gives read_tree result (group_at (nested room) tokens.now) }
     ensures shorter { IfOk result (λ p. length p.1.now < length tokens.now) }
 {
     if let Some(rest) = after(TokenKind::Keyword(keyword::REAL), tokens) {
@@ -48,7 +48,7 @@ fn group(alloc: Global, room: usize, tokens: &[Lexeme]) -> Result<(Expr, &[Lexem
 #[cycle(grammar)]
 #[tactic(auto, unfolding(crate::specs::Reading::atom_at))]
 fn atom(alloc: Global, room: usize, tokens: &[Lexeme]) -> Result<(Expr, &[Lexeme]), Stop>
-    ensures gives { Gives (λ p. (tree_of p.0, p.1.now)) result (atom_at (nested room) tokens.now) }
+    ensures gives { Gives read_tree result (atom_at (nested room) tokens.now) }
     ensures shorter { IfOk result (λ p. length p.1.now < length tokens.now) }
 {
     let Some((first, rest)) = split(tokens) else {
@@ -74,7 +74,7 @@ fn atom(alloc: Global, room: usize, tokens: &[Lexeme]) -> Result<(Expr, &[Lexeme
 #[cycle(grammar)]
 #[tactic(auto, unfolding(crate::specs::Reading::signed_at, crate::specs::Reading::nested, crate::specs::Reading::reader))]
 fn signed(alloc: Global, room: usize, tokens: &[Lexeme]) -> Result<(Expr, &[Lexeme]), Stop>
-    ensures gives { Gives (λ p. (tree_of p.0, p.1.now)) result (signed_at (nested room) tokens.now) }
+    ensures gives { Gives read_tree result (signed_at (nested room) tokens.now) }
     ensures shorter { IfOk result (λ p. length p.1.now < length tokens.now) }
 {
     match sign_ahead(tokens) {
@@ -90,7 +90,7 @@ fn signed(alloc: Global, room: usize, tokens: &[Lexeme]) -> Result<(Expr, &[Lexe
 #[cycle(grammar)]
 #[tactic(auto, unfolding(crate::specs::Reading::negation_at, crate::specs::Reading::compare_at, crate::specs::Reading::operand_at, crate::specs::Reading::nested, crate::specs::Reading::reader))]
 fn negation(alloc: Global, room: usize, tokens: &[Lexeme]) -> Result<(Expr, &[Lexeme]), Stop>
-    ensures gives { Gives (λ p. (tree_of p.0, p.1.now)) result (negation_at (nested room) tokens.now) }
+    ensures gives { Gives read_tree result (negation_at (nested room) tokens.now) }
     ensures shorter { IfOk result (λ p. length p.1.now < length tokens.now) }
 {
     match not_ahead(tokens) {
@@ -114,7 +114,7 @@ fn operand(
     level: Level,
     tokens: &[Lexeme],
 ) -> Result<(Expr, &[Lexeme]), Stop>
-    ensures gives { Gives (λ p. (tree_of p.0, p.1.now)) result (operand_at (nested room) level tokens.now) }
+    ensures gives { Gives read_tree result (operand_at (nested room) level tokens.now) }
     ensures shorter { IfOk result (λ p. length p.1.now < length tokens.now) }
 {
     match level {
@@ -134,8 +134,7 @@ fn binary(
     level: Level,
     tokens: &[Lexeme],
 ) -> Result<(Expr, &[Lexeme]), Stop>
-    ensures gives { Gives (λ p. (tree_of p.0, p.1.now)) result
-        (binary_at level (operand_at (nested room) level) tokens.now) }
+    ensures gives { Gives read_tree result (binary_at level (operand_at (nested room) level) tokens.now) }
     ensures shorter { IfOk result (λ p. length p.1.now < length tokens.now) }
 {
     let (mut left, mut rest) = match operand(alloc, room, level, tokens) {
@@ -160,7 +159,7 @@ fn binary(
 // An expression at the front of the lexemes, and what stands behind it.
 #[tactic(auto, unfolding(crate::specs::Sections::expr_at))]
 pub fn expression(alloc: Global, room: usize, tokens: &[Lexeme]) -> Result<(Expr, &[Lexeme]), Stop>
-    ensures gives { Gives (λ p. (tree_of p.0, p.1.now)) result (expr_at room tokens.now) }
+    ensures gives { Gives read_tree result (expr_at room tokens.now) }
     ensures shorter { IfOk result (λ p. length p.1.now < length tokens.now) }
 {
     binary(alloc, room, Level::Arrow, tokens)

@@ -1,9 +1,10 @@
 //! Items and choices.
 
-ghost use Rattle.std.specs.Prelude.{◌≡◌, List, length, map, IfOk, IsTrue, ◌<◌, ◌≤◌};
-ghost use Rattle.hys_ast.specs.Seen.{tree_of, shape_of, item_of};
+ghost use Rattle.std.specs.Prelude.{length, map, IfOk, ◌<◌};
+ghost use Rattle.hys_ast.specs.Seen.{tree_of, item_of};
 ghost use Rattle.hys_parse.specs.Reading.{Gives};
 ghost use Rattle.hys_parse.specs.Sections as reading;
+ghost use Rattle.hys_parse.specs.Views.{read_shape, read_items, turned_items};
 
 use crate::ahead::{after, expect, split};
 use crate::descent::expression;
@@ -15,7 +16,7 @@ use std::alloc::Global;
 
 #[tactic(auto, unfolding(crate::specs::Sections::ite_at))]
 fn ite(alloc: Global, room: usize, tokens: &[Lexeme]) -> Result<(Shape, &[Lexeme]), Stop>
-    ensures gives { Gives (λ p. (shape_of p.0, p.1.now)) result (reading.ite_at room tokens.now) }
+    ensures gives { Gives read_shape result (reading.ite_at room tokens.now) }
     ensures shorter { IfOk result (λ p. length p.1.now < length tokens.now) }
 {
     let (_, rest) = expect(TokenKind::Keyword(keyword::IF), tokens)?;
@@ -33,7 +34,7 @@ fn ite(alloc: Global, room: usize, tokens: &[Lexeme]) -> Result<(Shape, &[Lexeme
 
 #[tactic(auto, unfolding(crate::specs::Sections::braced_at))]
 fn braced(alloc: Global, room: usize, tokens: &[Lexeme]) -> Result<(Shape, &[Lexeme]), Stop>
-    ensures gives { Gives (λ p. (shape_of p.0, p.1.now)) result (reading.braced_at room tokens.now) }
+    ensures gives { Gives read_shape result (reading.braced_at room tokens.now) }
     ensures shorter { IfOk result (λ p. length p.1.now < length tokens.now) }
 {
     let (shape, rest) = ite(alloc, room, tokens)?;
@@ -43,7 +44,7 @@ fn braced(alloc: Global, room: usize, tokens: &[Lexeme]) -> Result<(Shape, &[Lex
 
 #[tactic(auto, unfolding(crate::specs::Sections::choice_at))]
 fn choice(alloc: Global, room: usize, tokens: &[Lexeme]) -> Result<(Shape, &[Lexeme]), Stop>
-    ensures gives { Gives (λ p. (shape_of p.0, p.1.now)) result (reading.choice_at room tokens.now) }
+    ensures gives { Gives read_shape result (reading.choice_at room tokens.now) }
     ensures shorter { IfOk result (λ p. length p.1.now < length tokens.now) }
 {
     match after(TokenKind::Sign(sign::OPEN_BRACE), tokens) {
@@ -54,7 +55,7 @@ fn choice(alloc: Global, room: usize, tokens: &[Lexeme]) -> Result<(Shape, &[Lex
 
 #[tactic(auto, unfolding(crate::specs::Sections::formula_at))]
 fn formula(alloc: Global, room: usize, tokens: &[Lexeme]) -> Result<(Shape, &[Lexeme]), Stop>
-    ensures gives { Gives (λ p. (shape_of p.0, p.1.now)) result (reading.formula_at room tokens.now) }
+    ensures gives { Gives read_shape result (reading.formula_at room tokens.now) }
     ensures shorter { IfOk result (λ p. length p.1.now < length tokens.now) }
 {
     let (whole, rest) = expression(alloc, room, tokens)?;
@@ -69,8 +70,7 @@ fn tolerance(
     comparison: Expr,
     tokens: &[Lexeme],
 ) -> Result<(Shape, &[Lexeme]), Stop>
-    ensures gives { Gives (λ p. (shape_of p.0, p.1.now)) result
-        (reading.tolerance_at room (tree_of comparison) tokens.now) }
+    ensures gives { Gives read_shape result (reading.tolerance_at room (tree_of comparison) tokens.now) }
     ensures shorter { IfOk result (λ p. length p.1.now < length tokens.now) }
 {
     let (whole, rest) = expression(alloc, room, tokens)?;
@@ -80,7 +80,7 @@ fn tolerance(
 
 #[tactic(auto, unfolding(crate::specs::Sections::guard_at))]
 fn guard(alloc: Global, room: usize, tokens: &[Lexeme]) -> Result<(Shape, &[Lexeme]), Stop>
-    ensures gives { Gives (λ p. (shape_of p.0, p.1.now)) result (reading.guard_at room tokens.now) }
+    ensures gives { Gives read_shape result (reading.guard_at room tokens.now) }
     ensures shorter { IfOk result (λ p. length p.1.now < length tokens.now) }
 {
     let (comparison, rest) = expression(alloc, room, tokens)?;
@@ -97,7 +97,7 @@ fn shape(
     section: Section,
     tokens: &[Lexeme],
 ) -> Result<(Shape, &[Lexeme]), Stop>
-    ensures gives { Gives (λ p. (shape_of p.0, p.1.now)) result (reading.shape_at room section tokens.now) }
+    ensures gives { Gives read_shape result (reading.shape_at room section tokens.now) }
     ensures shorter { IfOk result (λ p. length p.1.now < length tokens.now) }
 {
     match section {
@@ -173,8 +173,7 @@ fn item_turn(
     mut items: Vec<Item>,
     tokens: &[Lexeme],
 ) -> Result<(Vec<Item>, bool, &[Lexeme]), Stop>
-    ensures gives { Gives (λ p. (map item_of p.0.items, p.1, p.2.now)) result
-        (reading.item_turn room section (map item_of items.items) tokens.now) }
+    ensures gives { Gives turned_items result (reading.item_turn room section (map item_of items.items) tokens.now) }
     ensures shorter { IfOk result (λ p. length p.2.now < length tokens.now) }
 {
     match after(TokenKind::Sign(sign::CLOSE_BRACE), tokens) {
@@ -195,8 +194,7 @@ pub fn items(
     items: Vec<Item>,
     tokens: &[Lexeme],
 ) -> Result<(Vec<Item>, &[Lexeme]), Stop>
-    ensures gives { Gives (λ p. (map item_of p.0.items, p.1.now)) result
-        (reading.all_turns (reading.item_turn room section) (map item_of items.items) tokens.now) }
+    ensures gives { Gives read_items result (reading.item_turns room section (map item_of items.items) tokens.now) }
     ensures shorter { IfOk result (λ p. length p.1.now < length tokens.now) }
 {
     all_turns!(item_turn(alloc, room, section), items, tokens)

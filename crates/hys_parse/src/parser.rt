@@ -71,8 +71,7 @@ pub fn parse(alloc: Global, tokens: &[Token], text: &[u8]) -> Result<Source, Par
     ensures only { IfOk result (λ s. (tree : Tree) → IsTreeOf text.now tokens.now tree → tree ≡ source_of s) }
     ensures shallow { IfOk result (λ _. IsShallow tokens.now) }
     ensures deep { (k : ℕ) → IsFirstDeep tokens.now k → IsErrOf result (ParseFault.Deep k) }
-    ensures accepts { (tree : Tree) → IsTreeOf text.now tokens.now tree → IsShallow tokens.now →
-        IfErr result (λ e. e ≡ Memory) }
+    ensures accepts { (t : Tree) → IsTreeOf text.now tokens.now t → IsShallow tokens.now → IfErr result (λ e. e ≡ Memory) }
     ensures err { IfErr result (λ e. IsCause text.now tokens.now e) }
 {
     laws::spans(tokens, text);

@@ -6,6 +6,7 @@ ghost use Rattle.hys_ast.specs.Grammar as grammar;
 ghost use Rattle.hys_parse.specs.Reading.{Gives, Finds};
 ghost use Rattle.hys_parse.specs.declared.stop.Stop.TheVariants.{Memory};
 ghost use Rattle.hys_parse.specs.Sections as reading;
+ghost use Rattle.hys_parse.specs.Views.{read_draft, turned_draft};
 
 use crate::ahead::{expect, split};
 use crate::declaration::declarations;
@@ -114,8 +115,7 @@ fn decl_block(
     draft: Draft,
     tokens: &[Lexeme],
 ) -> Result<(Draft, &[Lexeme]), Stop>
-    ensures gives { Gives (λ p. (reading.draft_of p.0, p.1.now)) result
-        (reading.decls_at room section (reading.draft_of draft) tokens.now) }
+    ensures gives { Gives read_draft result (reading.decls_at room section (reading.draft_of draft) tokens.now) }
     ensures shorter { IfOk result (λ p. length p.1.now < length tokens.now) }
 {
     let Draft { seen, decls, items } = draft;
@@ -133,8 +133,7 @@ fn item_block(
     draft: Draft,
     tokens: &[Lexeme],
 ) -> Result<(Draft, &[Lexeme]), Stop>
-    ensures gives { Gives (λ p. (reading.draft_of p.0, p.1.now)) result
-        (reading.items_at room section (reading.draft_of draft) tokens.now) }
+    ensures gives { Gives read_draft result (reading.items_at room section (reading.draft_of draft) tokens.now) }
     ensures shorter { IfOk result (λ p. length p.1.now < length tokens.now) }
 {
     let Draft {
@@ -155,8 +154,7 @@ fn block(
     draft: Draft,
     tokens: &[Lexeme],
 ) -> Result<(Draft, &[Lexeme]), Stop>
-    ensures gives { Gives (λ p. (reading.draft_of p.0, p.1.now)) result
-        (reading.block_at room section (reading.draft_of draft) tokens.now) }
+    ensures gives { Gives read_draft result (reading.block_at room section (reading.draft_of draft) tokens.now) }
     ensures shorter { IfOk result (λ p. length p.1.now < length tokens.now) }
 {
     let (_, rest) = expect(TokenKind::Sign(sign::OPEN_BRACE), tokens)?;
@@ -176,8 +174,7 @@ fn section_turn(
     draft: Draft,
     tokens: &[Lexeme],
 ) -> Result<(Draft, bool, &[Lexeme]), Stop>
-    ensures gives { Gives (λ p. (reading.draft_of p.0, p.1, p.2.now)) result
-        (reading.section_turn room part (reading.draft_of draft) tokens.now) }
+    ensures gives { Gives turned_draft result (reading.section_turn room part (reading.draft_of draft) tokens.now) }
     ensures shorter { IfOk result (λ p. length p.2.now ≤ length tokens.now) }
     ensures takes { IfOk result (λ p. IsTrue p.1 → length p.2.now < length tokens.now) }
 {
@@ -200,8 +197,7 @@ fn sections(
     draft: Draft,
     tokens: &[Lexeme],
 ) -> Result<(Draft, &[Lexeme]), Stop>
-    ensures gives { Gives (λ p. (reading.draft_of p.0, p.1.now)) result
-        (reading.all_turns (reading.section_turn room part) (reading.draft_of draft) tokens.now) }
+    ensures gives { Gives read_draft result (reading.sections_at room part (reading.draft_of draft) tokens.now) }
     ensures shorter { IfOk result (λ p. length p.1.now ≤ length tokens.now) }
 {
     all_turns!(section_turn(alloc, room, part), draft, tokens)
@@ -216,8 +212,7 @@ fn part_of(
     decls: Vec<Decl>,
     tokens: &[Lexeme],
 ) -> Result<(Draft, &[Lexeme]), Stop>
-    ensures gives { Gives (λ p. (reading.draft_of p.0, p.1.now)) result
-        (reading.part_at room part (map decl_of decls.items) tokens.now) }
+    ensures gives { Gives read_draft result (reading.part_at room part (map decl_of decls.items) tokens.now) }
     ensures shorter { IfOk result (λ p. length p.1.now < length tokens.now) }
 {
     let (_, rest) = expect(TokenKind::Sign(sign::OPEN_BRACE), tokens)?;
