@@ -1,5 +1,6 @@
 -- The numbers that names take for states and inputs within bounds, and intervals that hold them.
 use Rattle.std.specs.Prelude.{◌≡◌, List, Bool, true, false, IsTrue}
+use Rattle.hys_number.specs.Number.{Number}
 use Rattle.hys_lin.specs.declared.form.Interval.{Interval}
 use Rattle.hys_lin.specs.Sums.{Assignment, Within}
 use Rattle.hys_lin.specs.Ranges.{box_at}
@@ -7,7 +8,7 @@ use Rattle.hys_prog.specs.declared.program.Role.{Role}
 use Rattle.hys_prog.specs.declared.program.Role.TheVariants.{State, Input, Output, Parameter, Aux}
 use Rattle.hys_prog.specs.declared.program.Program.{Program}
 use Rattle.hys_prog.specs.Programs.{EachItem}
-use Rattle.hys_prog.specs.Steps.{EachNameFrom, InBox, CaseOf, is_given, is_parameter}
+use Rattle.hys_prog.specs.Steps.{EachNameFrom, InBox, CaseOf, Legal, is_given, is_parameter}
 
 -- The parameters have their values, states and inputs lie in their boxes, Boolean ones at 0 or 1, and the case of
 -- each auxiliary holds. Demands may fail, and guard numbers may be in their gaps.
@@ -28,3 +29,7 @@ has_value Aux = true
 abbrev pub HoldsValues : Program → List Interval → Type 0
 HoldsValues p boxes = (w : Assignment) → TakesValues p w →
     EachNameFrom 0 (λ n k. IsTrue (has_value k.role) → Within (box_at boxes n) (w n)) p.names
+
+-- the names take the numbers of each legal step
+abbrev pub TakesLegalValues : Program → Type 0
+TakesLegalValues p = (x u : List Number) (w : Assignment) (x' y : List Number) → Legal p x u w x' y → TakesValues p w

@@ -1,25 +1,21 @@
 //! What holds of the numbers that names take, as calls that do nothing.
 
 ghost use Rattle.std.specs.Prelude.{◌≡◌, ◌↔◌, List};
-ghost use Rattle.hys_number.specs.Number.{Number};
-ghost use Rattle.hys_lin.specs.Sums.{Assignment};
 ghost use Rattle.hys_prog.specs.declared.program.Program.{Program};
 ghost use Rattle.hys_prog.specs.declared.program.Order.{Order};
 ghost use Rattle.hys_prog.specs.Orders.{IsOrder};
-ghost use Rattle.hys_prog.specs.Steps.{Legal};
 ghost use Rattle.hys_number.specs.Ops.{whole};
 ghost use Rattle.hys_prog.specs.Example.{crossed};
 ghost use Rattle.hys_lin.specs.declared.form.Interval.{Interval};
 ghost use Rattle.hys_bound.specs.Ranges.{intervals};
 ghost use Rattle.hys_bound.specs.Fixed.{AreFixed};
-ghost use Rattle.hys_bound.specs.Values.{TakesValues};
+ghost use Rattle.hys_bound.specs.Values.{TakesValues, TakesLegalValues};
 ghost use Rattle.hys_bound.specs.Example.{of_three};
 
 /// The names take the numbers of every legal step, so that intervals that hold what the names take
 /// hold these.
 pub fn a_legal_step()
-    ensures { (p : Program) (x u : List Number) (w : Assignment) (x' y : List Number) →
-        Legal p x u w x' y → TakesValues p w }
+    ensures { (p : Program) → TakesLegalValues p }
 {}
 
 /// The intervals are the only ones that are those of the definitions over themselves: each auxiliary

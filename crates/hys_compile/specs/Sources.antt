@@ -37,6 +37,10 @@ pub record IsProgramOf (tree : Source) (program : Program) : Type 0 where
   pub tolerance : Number
   pub translation : IsTranslation tolerance tree program
 
+-- the programs have the same numbers of intervals, each along an order of its own
+abbrev pub HaveSameRanges : Program → Program → Type 0
+HaveSameRanges p q = (o r : Order) → IsOrder p o → IsOrder q r → range_numbers p o ≡ range_numbers q r
+
 -- The numbers of the intervals of the source's names, in the order in which they are looked for: those of its
 -- translation along its order of definition. All translations have the same, at whatever tolerance.
 pub record AreRangeNumbers (tree : Source) (numbers : List Placed) : Type 0 where

@@ -48,6 +48,10 @@ abbrev pub most_nodes_of_one : ℕ
 most_nodes_of_one = 1000
 
 -- ---- texts
+-- each source that is read from a text has the property
+abbrev pub EachReadSource : (Source → Type 0) → Type 0
+EachReadSource P = (text : List ℕ) (tokens : List Token) (s : Source) → Cut text tokens → IsTreeOf text tokens s → P s
+
 -- the text is within the limit, and these are its tokens
 pub record IsLexed (text : List ℕ) (tokens : List Token) : Type 0 where
   pub bytes : length text ≤ most_bytes
@@ -151,6 +155,17 @@ pub data IsCause (tolerance : Number) (text : List ℕ) : SourceFault → Type 0
 -- two faults are the same, or both show a circular list of the text: of several any may be shown
 abbrev pub IsSameCause : List ℕ → SourceFault → SourceFault → Type 0
 IsSameCause text f g = (f ≡ g) ⊎ (IsCircle text f × IsCircle text g)
+
+-- what is answered where the fault is a cause of the text: its like, or want of memory
+abbrev pub AnswersCause : List ℕ → SourceFault → SourceFault → Type 0
+AnswersCause text f g = (g ≡ no_memory) ⊎ IsSameCause text g f
+
+-- there is one cause, where one circular list is as good as another
+abbrev pub HasOneCause : Number → List ℕ → Type 0
+HasOneCause tolerance text = (f g : SourceFault) → IsCause tolerance text f → IsCause tolerance text g → IsSameCause text f g
+
+abbrev pub HasNoCause : Number → List ℕ → Type 0
+HasNoCause tolerance text = (f : SourceFault) → IsCause tolerance text f → ⊥
 
 -- what an error may be: a cause of the text, or want of memory
 abbrev pub IsRefusal : Number → List ℕ → SourceFault → Type 0

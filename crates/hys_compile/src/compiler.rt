@@ -1,8 +1,8 @@
-ghost use Rattle.std.specs.Prelude.{◌≡◌, ◌⊎◌, IfOk, IfErr};
+ghost use Rattle.std.specs.Prelude.{◌≡◌, IfOk, IfErr};
 ghost use Rattle.std.specs.Result.{IsErrAnd};
 ghost use Rattle.hys_number.specs.Ops.{◌<ₙ◌, whole};
 ghost use Rattle.hys_compile.specs.Faults.{no_memory};
-ghost use Rattle.hys_compile.specs.Text.{IsCompiled, IsCause, IsRefusal, IsCompilable, IsSameCause};
+ghost use Rattle.hys_compile.specs.Text.{IsCompiled, IsCause, IsRefusal, IsCompilable, AnswersCause};
 ghost use Rattle.hys_compile.specs.declared.fault.SourceFault.{SourceFault as Fault};
 
 use crate::building::build;
@@ -68,8 +68,7 @@ pub fn compile(alloc: Global, text: &[u8], eps: Frac) -> Result<Compiled, Source
     requires eps { whole 0 <ₙ eps }
     ensures done { IfOk result (IsCompiled eps text.now) }
     ensures refused { IfErr result (IsRefusal eps text.now) }
-    ensures exact { (fault : Fault) → IsCause eps text.now fault →
-        IsErrAnd result (λ g. (g ≡ no_memory) ⊎ IsSameCause text.now g fault) }
+    ensures exact { (fault : Fault) → IsCause eps text.now fault → IsErrAnd result (AnswersCause text.now fault) }
     ensures accepts { IsCompilable eps text.now → IfErr result (λ f. f ≡ no_memory) }
     ensures compilable { IfOk result (λ _. IsCompilable eps text.now) }
 {

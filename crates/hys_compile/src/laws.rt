@@ -3,23 +3,16 @@
 ghost use Rattle.std.specs.Prelude.{◌≡◌, ℕ, ◌≤◌, List, length, map};
 ghost use Rattle.std.specs.List.{AllByRecursion};
 ghost use Rattle.hys_number.specs.Number.{Number};
-ghost use Rattle.hys_lex.specs.Cut.{Cut};
-ghost use Rattle.hys_lex.specs.declared.token.Token.{Token};
 ghost use Rattle.hys_ast.specs.Tree.{Source};
-ghost use Rattle.hys_ast.specs.Grammar.{IsTreeOf};
 ghost use Rattle.hys_meaning.specs.Accepted.{Accepted};
 ghost use Rattle.hys_meaning.specs.Weight.{weight};
 ghost use Rattle.hys_type.specs.Checks.{HasSourceLiterals};
 ghost use Rattle.hys_type.specs.DeclarationKeeping.{IsReadSource};
 ghost use Rattle.hys_type.specs.Declaring.{IsDeclaration};
-ghost use Rattle.hys_type.specs.Translation.{IsTranslation};
-ghost use Rattle.hys_prog.specs.Orders.{IsOrder};
 ghost use Rattle.hys_prog.specs.declared.program.Program.{Program};
-ghost use Rattle.hys_prog.specs.declared.program.Order.{Order};
-ghost use Rattle.hys_bound.specs.Ranges.{range_numbers};
 ghost use Rattle.hys_compile.specs.Faults.{listed, named, words_of};
-ghost use Rattle.hys_compile.specs.Text.{IsCause, IsCompilable, IsSameCause};
-ghost use Rattle.hys_compile.specs.declared.fault.SourceFault.{SourceFault as Fault};
+ghost use Rattle.hys_compile.specs.Text.{IsCompilable, EachReadSource, HasOneCause, HasNoCause};
+ghost use Rattle.hys_compile.specs.Sources.{HaveSameRanges, IsProgramOf};
 
 use hys_lex::laws as cuts;
 use hys_parse::laws as trees;
@@ -28,19 +21,15 @@ use hys_parse::laws as trees;
 /// stands in a section of declarations and has a word as its name. Its declarations and items stand as
 /// they are written: values at parameters, bounds at real states and inputs, left names but at demands.
 pub fn read_sources()
-    ensures literals { (text : List ℕ) (tokens : List Token) (s : Source) → Cut text tokens → IsTreeOf text tokens s →
-        HasSourceLiterals s }
-    ensures declarations { (text : List ℕ) (tokens : List Token) (s : Source) → Cut text tokens →
-        IsTreeOf text tokens s → AllByRecursion IsDeclaration s.decls }
-    ensures written { (text : List ℕ) (tokens : List Token) (s : Source) → Cut text tokens → IsTreeOf text tokens s →
-        IsReadSource s }
+    ensures literals { EachReadSource HasSourceLiterals }
+    ensures declarations { EachReadSource (λ s. AllByRecursion IsDeclaration s.decls) }
+    ensures written { EachReadSource IsReadSource }
 {}
 
 /// All translations of a source have the same numbers of intervals along their orders, at whatever
 /// tolerances, so that the first of them that doesn't fit is the source's.
 pub fn same_range_numbers()
-    ensures { (tolerance other : Number) (s : Source) (p q : Program) (o r : Order) → IsTranslation tolerance s p →
-        IsTranslation other s q → IsOrder p o → IsOrder q r → range_numbers p o ≡ range_numbers q r }
+    ensures { (s : Source) (p q : Program) → IsProgramOf s p → IsProgramOf s q → HaveSameRanges p q }
 {}
 
 /// An accepted source has a weight of at most 4,200: each of its at most 200 names adds at most 1, and
@@ -61,10 +50,8 @@ pub fn list_faults()
 /// A text has at most one cause to be refused, where one circular list of its source is as good as
 /// another, and one that can be compiled has none.
 pub fn one_cause()
-    ensures one { (tolerance : Number) (text : List ℕ) (f g : Fault) → IsCause tolerance text f →
-        IsCause tolerance text g → IsSameCause text f g }
-    ensures none { (tolerance : Number) (text : List ℕ) (f : Fault) → IsCompilable tolerance text →
-        IsCause tolerance text f → ⊥ }
+    ensures one { (tolerance : Number) (text : List ℕ) → HasOneCause tolerance text }
+    ensures none { (tolerance : Number) (text : List ℕ) → IsCompilable tolerance text → HasNoCause tolerance text }
 {
     cuts::one_cut();
     trees::one_tree();

@@ -1,5 +1,6 @@
 -- Truth tables: which formulas are short, the settings of their names, and the row of each setting.
-use Rattle.std.specs.Prelude.{◌≡◌, ℕ, suc, ◌*◌, ◌^◌, ◌<◌, ◌⊎◌, List, [], ◌∷◌, ◌++◌, length, map, Bool, true, false, not, ◌&&◌, Option, Some, None, if◌then◌else◌, ◌==◌, ltb, leb, ℤ, pos, ◌-ℤ◌}
+use Rattle.std.specs.Prelude.{◌≡◌, ℕ, suc, ◌*◌, ◌^◌, ◌<◌, ◌⊎◌, List, [], ◌∷◌, ◌++◌, length, map, Bool, true, false, not, ◌&&◌, Option, Some, None, MatchOption, Vec, if◌then◌else◌, ◌==◌, ltb, leb, ℤ, pos, ◌-ℤ◌}
+use Rattle.std.specs.declared.alloc.Global.{Global}
 use Rattle.hys_number.specs.Number.{Number}
 use Rattle.hys_number.specs.Ops.{◌+ₙ◌, whole, int}
 use Rattle.hys_lin.specs.declared.form.Row.{Row}
@@ -7,10 +8,12 @@ use Rattle.hys_lin.specs.declared.form.Term.{Term}
 use Rattle.hys_lin.specs.Bits.{bit}
 use Rattle.hys_lin.specs.Stated.{Stated, AreRows, EachBelow}
 use Rattle.hys_lin.specs.Sums.{Assignment}
-use Rattle.hys_formula.specs.Formulas.{FormulaTree, constant, named, negated, joined, connectives, truth}
+use Rattle.hys_formula.specs.declared.formula.Formula.{Formula}
+use Rattle.hys_formula.specs.Formulas.{FormulaTree, constant, named, negated, joined, connectives, truth, tree_of}
 use Rattle.hys_logic.specs.declared.table.Setting.{Setting}
 use Rattle.hys_logic.specs.declared.row.Sign.{Sign}
 use Rattle.hys_logic.specs.declared.row.Sign.TheVariants.{Plus, Minus}
+use Rattle.hys_logic.specs.Literals.{column_in}
 use Rattle.hys_logic.specs.Rows.{signed}
 
 -- ---- settings
@@ -137,3 +140,25 @@ IsSettingsRow ss b r = (r.terms ≡ settings_terms ss) × (r.bound ≡ int b) ×
 -- the names were collected, or both there and here they are more than four
 abbrev pub Collects : (ℕ → ℕ) → FormulaTree → List Setting → List Setting → Type 0
 Collects p f old new = (new ≡ names_among p f old) ⊎ ((4 < length new) × (4 < length (names_among p f old)))
+
+-- ---- over the code's formulas and lists
+-- the names of the formula were collected by their columns
+abbrev pub CollectsNames : List ℕ → Formula → Vec Setting Global → Vec Setting Global → Type 0
+CollectsNames columns l before after = Collects (column_in columns) (tree_of l) before.items after.items
+
+-- the names of a short formula by their columns, each set to 0; none of another formula
+abbrev pub AreShortNames : List ℕ → Formula → Option (Vec Setting Global) → Type 0
+AreShortNames columns l names =
+    MatchOption names (is_short (column_in columns) (tree_of l) ≡ false)
+    (λ ss. (is_short (column_in columns) (tree_of l) ≡ true) × (ss.items ≡ names_of (column_in columns) (tree_of l)))
+
+-- the row of one choice of settings was added, at which a formula has this truth
+abbrev pub AddsSetting : Option ℕ → Bool → List Setting → Vec Row Global → Vec Row Global → Type 0
+AddsSetting target t ss before after =
+    AddsOver target (columns_of ss) (setting_stated target t ss) before.items after.items
+
+-- the rows of all settings that begin with those made and go on with the columns of the rest were added
+abbrev pub AddsRest :
+    Option ℕ → List ℕ → Formula → Vec Setting Global → List Setting → Vec Row Global → Vec Row Global → Type 0
+AddsRest target columns l made rest before after =
+    AddsTable target (column_in columns) (tree_of l) made.items rest before.items after.items

@@ -1,10 +1,12 @@
 -- What a formula is turned into rows for, which rows those are, and the truths that fresh columns have where they hold.
-use Rattle.std.specs.Prelude.{◌≡◌, ℕ, ◌+◌, ◌*◌, ◌<◌, ◌≤◌, List, [], ◌∷◌, ◌++◌, length, Bool, true, false, Option, Some, None, pos, negsuc, ◌↔◌}
+use Rattle.std.specs.Prelude.{◌≡◌, ℕ, ◌+◌, ◌*◌, ◌<◌, ◌≤◌, List, [], ◌∷◌, ◌++◌, length, Bool, true, false, Option, Some, None, Vec, pos, negsuc, ◌↔◌}
+use Rattle.std.specs.declared.alloc.Global.{Global}
 use Rattle.hys_lin.specs.declared.form.Row.{Row}
 use Rattle.hys_lin.specs.Bits.{bit, IsBit}
 use Rattle.hys_lin.specs.Stated.{Stated, AreRows}
 use Rattle.hys_lin.specs.Sums.{Assignment, value, AreTerms, HoldAll}
-use Rattle.hys_formula.specs.Formulas.{FormulaTree, connectives, truth, EachName}
+use Rattle.hys_formula.specs.declared.formula.Formula.{Formula}
+use Rattle.hys_formula.specs.Formulas.{FormulaTree, connectives, truth, tree_of, EachName}
 use Rattle.hys_logic.specs.declared.literal.Literal.{Literal}
 use Rattle.hys_logic.specs.declared.literal.Literal.TheVariants.{Fixed, Column}
 use Rattle.hys_logic.specs.declared.literal.Logic.{Logic}
@@ -59,6 +61,10 @@ literal_under Require l = Fixed true
 abbrev pub literal_by : Use → (ℕ → ℕ) → ℕ → FormulaTree → Literal
 literal_by u p k f = literal_under u (read_if (is_short p f) p k f)
 
+-- the same, where the names have these columns
+abbrev pub literal_over : Use → List ℕ → ℕ → FormulaTree → Literal
+literal_over u cs k f = literal_by u (column_in cs) k f
+
 -- ---- rows
 -- the rows that tie a literal to its use: d - l <= 0 and l - d <= 0, or -l <= -1
 abbrev pub tied : Use → Literal → List Stated
@@ -104,6 +110,10 @@ AddsStated u cs k f old new =
 abbrev pub IsNext : Use → List ℕ → ℕ → FormulaTree → ℕ → Type 0
 IsNext u cs k f n = n ≡ k + fresh_count u (column_in cs) f
 
+-- the rows of the code's formula were added to its list
+abbrev pub AddsLogic : Use → List ℕ → ℕ → Formula → Vec Row Global → Vec Row Global → Type 0
+AddsLogic u cs k l before after = AddsStated u cs k (tree_of l) before.items after.items
+
 -- ---- meanings
 -- the column is none of the formula's
 abbrev pub IsApart : ℕ → List ℕ → FormulaTree → Type 0
@@ -143,7 +153,7 @@ HasTruth u cs k f l = (v : Assignment) → HaveBits cs v f → IsSolved u cs k v
 
 -- the literal and the rows are the stated ones
 abbrev pub HasLiteral : Use → List ℕ → ℕ → FormulaTree → Logic → Type 0
-HasLiteral u cs k f l = l.literal ≡ form_of (literal_by u (column_in cs) k f)
+HasLiteral u cs k f l = l.literal ≡ form_of (literal_over u cs k f)
 
 abbrev pub HasRows : Use → List ℕ → ℕ → FormulaTree → Logic → Type 0
 HasRows u cs k f l = AreRows l.rows (stated_by u (column_in cs) k f)

@@ -1,8 +1,8 @@
-ghost use Rattle.std.specs.Prelude.{◌≡◌, ◌≤◌, ◌<◌, ◌+◌, ◌^◌, ◌++◌, length, IfOk, MatchOption, true, false, pos, unsigned_abs};
+ghost use Rattle.std.specs.Prelude.{◌≡◌, ◌≤◌, ◌<◌, ◌+◌, ◌^◌, ◌++◌, length, IfOk, pos, unsigned_abs};
 ghost use Rattle.hys_formula.specs.Formulas.{tree_of, connect, connectives};
 ghost use Rattle.hys_logic.specs.Literals.{column_in};
 ghost use Rattle.hys_logic.specs.Meanings.{NamesWithin};
-ghost use Rattle.hys_logic.specs.Tables.{placed, setting_in, ones as ones_in, columns_of, Rising, truth_by, sign_by as sign_of, setting_stated, bound_by, IsAbsent, AddsOver, AddsTable, Collects, IsSettingsRow, are_few, is_short, names_of};
+ghost use Rattle.hys_logic.specs.Tables.{placed, setting_in, ones as ones_in, columns_of, Rising, truth_by, sign_by as sign_of, bound_by, IsAbsent, IsSettingsRow, are_few, CollectsNames, AddsSetting, AddsRest, AreShortNames};
 
 use crate::row::{Sign, term};
 use crate::small::small;
@@ -43,7 +43,7 @@ fn add_names(
     settings: &mut Vec<Setting>,
 ) -> Result<(), AllocError>
     requires { NamesWithin columns.now (tree_of formula.now) }
-    ensures { IfOk result (λ _. Collects (column_in columns.now) (tree_of formula.now) settings.old.items settings.new.items) }
+    ensures { IfOk result (λ _. CollectsNames columns.now formula.now settings.old settings.new) }
 {
     if settings.len() > 4 {
         return Ok(());
@@ -168,8 +168,7 @@ fn add_setting(
     requires few { length settings.now ≤ 4 }
     requires rising { Rising (columns_of settings.now) }
     requires absent { IsAbsent target (columns_of settings.now) }
-    ensures { IfOk result (λ _.
-        AddsOver target (columns_of settings.now) (setting_stated target truth settings.now) rows.old.items rows.new.items) }
+    ensures { IfOk result (λ _. AddsSetting target truth settings.now rows.old rows.new) }
 {
     match target {
         Some(column) => {
@@ -207,8 +206,7 @@ pub fn add_table(
     requires rising { Rising (columns_of (made.old.items ++ rest.now)) }
     requires absent { IsAbsent target (columns_of (made.old.items ++ rest.now)) }
     ensures same { IfOk result (λ _. made.new.items ≡ made.old.items) }
-    ensures added { IfOk result (λ _.
-        AddsTable target (column_in columns.now) (tree_of formula.now) made.old.items rest.now rows.old.items rows.new.items) }
+    ensures added { IfOk result (λ _. AddsRest target columns.now formula.now made.old rest.now rows.old rows.new) }
 {
     match rest.split_first() {
         None => {
@@ -257,9 +255,7 @@ pub fn short_names(
 ) -> Result<Option<Vec<Setting>>, AllocError>
     requires names { NamesWithin columns.now (tree_of formula.now) }
     requires count { connectives (tree_of formula.now) < 2 ^ 32 }
-    ensures { IfOk result (λ names. MatchOption names
-        (is_short (column_in columns.now) (tree_of formula.now) ≡ false)
-        (λ ss. (is_short (column_in columns.now) (tree_of formula.now) ≡ true) × (ss.items ≡ names_of (column_in columns.now) (tree_of formula.now)))) }
+    ensures { IfOk result (λ names. AreShortNames columns.now formula.now names) }
 {
     let mut names = Vec::new(alloc);
     add_names(formula, columns, &mut names)?;

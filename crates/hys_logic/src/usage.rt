@@ -4,7 +4,7 @@ ghost use Rattle.hys_logic.specs.declared.usage.Use.TheVariants.{Read, Define, R
 ghost use Rattle.hys_logic.specs.Literals.{column_in};
 ghost use Rattle.hys_logic.specs.Meanings.{HaveColumns, NamesWithin, IsBelow};
 ghost use Rattle.hys_logic.specs.Tables.{is_short, names_of};
-ghost use Rattle.hys_logic.specs.Uses.{fresh_count, own_count, target_of, literal_under, literal_by, AddsTied, AddsStated, IsNext, IsFree, HaveSolutions, HasTruth, HasLiteral, HasRows, AreFew, IsSmall};
+ghost use Rattle.hys_logic.specs.Uses.{fresh_count, own_count, target_of, literal_under, literal_over, AddsTied, AddsLogic, IsNext, IsFree, HaveSolutions, HasTruth, HasLiteral, HasRows, AreFew, IsSmall};
 
 use crate::formula::{Made, add_rows};
 use crate::literal::{Literal, Logic};
@@ -200,9 +200,9 @@ fn add_logic(
     requires free { IsFree used columns.now first_free (tree_of formula.now) }
     requires room { first_free + connectives (tree_of formula.now) ≤ 2 ^ 32 }
     requires count { connectives (tree_of formula.now) < 2 ^ 32 }
-    ensures literal { IfOk result (λ m. m.literal ≡ literal_by used (column_in columns.now) first_free (tree_of formula.now)) }
+    ensures literal { IfOk result (λ m. m.literal ≡ literal_over used columns.now first_free (tree_of formula.now)) }
     ensures next { IfOk result (λ m. IsNext used columns.now first_free (tree_of formula.now) m.next) }
-    ensures added { IfOk result (λ _. AddsStated used columns.now first_free (tree_of formula.now) rows.old.items rows.new.items) }
+    ensures added { IfOk result (λ _. AddsLogic used columns.now first_free formula.now rows.old rows.new) }
 {
     match short_names(alloc, formula, columns)? {
         Some(names) => Ok(add_short(alloc, used, formula, columns, first_free, &names, rows)?),
@@ -224,9 +224,9 @@ fn add_short(
     requires free { IsFree used columns.now first_free (tree_of formula.now) }
     requires short { is_short (column_in columns.now) (tree_of formula.now) ≡ true }
     requires own { names.now ≡ names_of (column_in columns.now) (tree_of formula.now) }
-    ensures literal { IfOk result (λ m. m.literal ≡ literal_by used (column_in columns.now) first_free (tree_of formula.now)) }
+    ensures literal { IfOk result (λ m. m.literal ≡ literal_over used columns.now first_free (tree_of formula.now)) }
     ensures next { IfOk result (λ m. IsNext used columns.now first_free (tree_of formula.now) m.next) }
-    ensures added { IfOk result (λ _. AddsStated used columns.now first_free (tree_of formula.now) rows.old.items rows.new.items) }
+    ensures added { IfOk result (λ _. AddsLogic used columns.now first_free formula.now rows.old rows.new) }
 {
     let target = used.target(first_free);
     let mut made = Vec::new(alloc);
@@ -253,9 +253,9 @@ fn add_long(
     requires free { IsFree used columns.now first_free (tree_of formula.now) }
     requires room { first_free + connectives (tree_of formula.now) ≤ 2 ^ 32 }
     requires long { is_short (column_in columns.now) (tree_of formula.now) ≡ false }
-    ensures literal { IfOk result (λ m. m.literal ≡ literal_by used (column_in columns.now) first_free (tree_of formula.now)) }
+    ensures literal { IfOk result (λ m. m.literal ≡ literal_over used columns.now first_free (tree_of formula.now)) }
     ensures next { IfOk result (λ m. IsNext used columns.now first_free (tree_of formula.now) m.next) }
-    ensures added { IfOk result (λ _. AddsStated used columns.now first_free (tree_of formula.now) rows.old.items rows.new.items) }
+    ensures added { IfOk result (λ _. AddsLogic used columns.now first_free formula.now rows.old rows.new) }
 {
     let made = add_rows(alloc, formula, columns, u64::from(first_free), rows)?;
     tie(alloc, used, made.literal, rows)?;

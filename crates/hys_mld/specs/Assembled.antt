@@ -8,6 +8,7 @@ use Rattle.hys_prog.specs.Steps.{places, is_state}
 use Rattle.hys_sys.specs.declared.system.System.{System}
 use Rattle.hys_exact.specs.Built.{form_for, is_output_name, output_with}
 use Rattle.hys_exact.specs.Columns.{columns_of, of_each}
+use Rattle.hys_mld.specs.declared.items.Lines.{Lines}
 
 -- The system has the program's name and weight, these rows and labels, and so many fresh columns; next values and
 -- outputs have the forms of the items that define them.
@@ -19,3 +20,7 @@ pub record IsAssembled (p : Program) (boxes : List Interval) (fresh : ℕ) (rows
   pub next : S.next ≡ map (form_for p.items forms) (places is_state p)
   pub outputs : S.outputs ≡ of_each is_output_name (output_with p.items forms) 0 p.names
   pub weight : S.weight ≡ p.weight
+
+-- from the code's lines
+abbrev pub IsAssembledFrom : Program → List Interval → ℕ → Lines → System → Type 0
+IsAssembledFrom p boxes fresh l S = IsAssembled p boxes fresh l.rows.items l.labels.items l.forms.items S

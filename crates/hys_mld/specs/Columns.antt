@@ -6,7 +6,7 @@ use Rattle.hys_sys.specs.declared.system.ColumnRole.TheVariants.{State as StateR
 use Rattle.hys_sys.specs.declared.system.Kind2.TheVariants as kind
 use Rattle.hys_sys.specs.declared.system.Column.{Column}
 use Rattle.hys_sys.specs.Exact.{fresh_name}
-use Rattle.hys_exact.specs.Columns.{fresh_column, is_state_name, is_input_name, is_boolean_auxiliary, is_real_auxiliary, given_column, bool_column, real_column}
+use Rattle.hys_exact.specs.Columns.{fresh_column, is_state_name, is_input_name, is_boolean_auxiliary, is_real_auxiliary, given_column, bool_column, real_column, of_each}
 use Rattle.hys_mld.specs.declared.columns.Sort.{Sort}
 use Rattle.hys_mld.specs.declared.columns.Sort.TheVariants.{State, Input, Boolean, Real}
 
@@ -23,6 +23,10 @@ sort_column State boxes = given_column StateRole
 sort_column Input boxes = given_column InputRole
 sort_column Boolean boxes = bool_column
 sort_column Real boxes = real_column boxes
+
+-- the columns of the names of the sort, in order of declaration
+abbrev pub sort_columns : Sort → List Interval → List Name → List Column
+sort_columns sort boxes names = of_each (is_of sort) (sort_column sort boxes) 0 names
 
 -- the fresh column with the number
 abbrev pub fresh_with : ℕ → Column

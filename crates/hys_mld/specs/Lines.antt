@@ -9,6 +9,7 @@ use Rattle.hys_exact.specs.Labels.{label_of}
 use Rattle.hys_rows.specs.declared.added.Added.{Added}
 use Rattle.hys_rows.specs.Items.{Fits, fresh_in}
 use Rattle.hys_rows.specs.Parts.{IsAdded, form_in}
+use Rattle.hys_mld.specs.declared.items.Lines.{Lines}
 
 -- ---- forms
 -- the forms of the items, whose fresh columns begin at k
@@ -45,6 +46,10 @@ pub record AreLines (names : List Name) (boxes : List Interval) (columns : List 
   pub rows_are : rows ≡ all_rows by_item
   pub labels_are : labels ≡ all_labels names items by_item
   pub forms_are : forms ≡ items_forms columns k items
+
+-- the code's lines have them
+abbrev pub HasLines : List Name → List Interval → List ℕ → ℕ → List ProgItem → Lines → Type 0
+HasLines names boxes columns k items l = AreLines names boxes columns k items l.rows.items l.labels.items l.forms.items
 
 -- the items, the columns and the intervals belong together
 abbrev pub ItemsFit : List Name → List Interval → List ℕ → ℕ → List ProgItem → Type 0

@@ -8,7 +8,7 @@ ghost use Rattle.hys_exact.specs.Automata.{LegalSteps, automaton_of};
 ghost use Rattle.hys_exact.specs.Built.{IsBuilt};
 ghost use Rattle.hys_exact.specs.Columns.{front};
 ghost use Rattle.hys_mld.specs.Answers.{Judged};
-ghost use Rattle.hys_mld.specs.Assembled.{IsAssembled};
+ghost use Rattle.hys_mld.specs.Assembled.{IsAssembledFrom};
 ghost use Rattle.hys_mld.specs.Fresh.{fresh_of, name_columns};
 ghost use Rattle.hys_mld.specs.Lines.{AreLines};
 ghost use Rattle.hys_mld.specs.Numbers.{row_numbers};
@@ -108,8 +108,7 @@ fn assemble(
     requires program { IsProgram program.now }
     requires boxes { length boxes.now ≡ length program.now.names }
     requires forms { length lines.forms.items ≡ length program.now.items }
-    ensures { IfOk result (λ s.
-        IsAssembled program.now boxes.now fresh lines.rows.items lines.labels.items lines.forms.items s) }
+    ensures { IfOk result (λ s. IsAssembledFrom program.now boxes.now fresh lines s) }
 {
     let Lines {
         rows,

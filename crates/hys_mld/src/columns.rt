@@ -2,8 +2,8 @@ ghost use Rattle.std.specs.Prelude.{◌≡◌, ◌++◌, ◌<◌, ◌^◌, lengt
 ghost use Rattle.hys_bound.specs.Ranges.{unit as unit_interval};
 ghost use Rattle.hys_sys.specs.Exact.{fresh_name, fresh_variables};
 ghost use Rattle.hys_exact.specs.Automata.{kind_of as kind_by};
-ghost use Rattle.hys_exact.specs.Columns.{columns_of, fresh_column, of_each};
-ghost use Rattle.hys_mld.specs.Columns.{fresh_with, is_of as is_of_sort, sort_column};
+ghost use Rattle.hys_exact.specs.Columns.{columns_of, fresh_column};
+ghost use Rattle.hys_mld.specs.Columns.{fresh_with, is_of as is_of_sort, sort_column, sort_columns};
 
 use hys_ast::Kind;
 use hys_base::Text;
@@ -100,8 +100,7 @@ fn add_columns(
     columns: &mut Vec<Column>,
 ) -> Result<(), AllocError>
     requires { length boxes.now ≡ length names.now }
-    ensures { OnOk result (columns.new.items ≡
-        columns.old.items ++ of_each (is_of_sort sort) (sort_column sort boxes.now) 0 names.now) }
+    ensures { OnOk result (columns.new.items ≡ columns.old.items ++ sort_columns sort boxes.now names.now) }
 {
     for (n, name) in names.iter().enumerate() {
         if is_of(sort, name) {

@@ -7,7 +7,7 @@ ghost use Rattle.hys_rows.specs.Items.{FitsNames};
 ghost use Rattle.hys_rows.specs.Numbers.{numbers_of};
 ghost use Rattle.hys_rows.specs.Parts.{Adds};
 ghost use Rattle.hys_mld.specs.Answers.{Judged};
-ghost use Rattle.hys_mld.specs.Lines.{AreLines, ItemsFit};
+ghost use Rattle.hys_mld.specs.Lines.{HasLines, ItemsFit};
 ghost use Rattle.hys_mld.specs.Numbers.{items_numbers};
 
 use crate::fault::BuildFault;
@@ -90,8 +90,7 @@ pub fn write_lines(
 ) -> Result<Lines, BuildFault>
     requires fit { ItemsFit names.now boxes.now columns.now first items.now }
     requires room { first + items_weight items.now < 2 ^ 32 }
-    ensures lines { IfOk result (λ l.
-        AreLines names.now boxes.now columns.now first items.now l.rows.items l.labels.items l.forms.items) }
+    ensures lines { IfOk result (λ l. HasLines names.now boxes.now columns.now first items.now l) }
     ensures judged { Judged (items_numbers boxes.now columns.now first 0 items.now) result }
 {
     let mut rows = Vec::new(alloc);

@@ -1,5 +1,5 @@
 -- Names with the lists of names that they lead to, of which some are taken.
-use Rattle.std.specs.Prelude.{◌≡◌, ℕ, suc, ◌<◌, ◌≤◌, List, [], ◌∷◌, Bool, true, false, length, ◌↔◌, ◌++◌, take, drop}
+use Rattle.std.specs.Prelude.{◌≡◌, ℕ, suc, ◌<◌, ◌≤◌, MatchOption, Option, List, [], ◌∷◌, Bool, true, false, length, ◌↔◌, ◌++◌, take, drop}
 use Rattle.std.proofs.Common.{get_or, set}
 use Rattle.std.specs.List.{AllByRecursion}
 use Rattle.hys_prog.specs.Steps.{places, is_auxiliary}
@@ -44,6 +44,10 @@ Taking links names taken (n ∷ ns) end = IsFirstReady links names taken n × Ta
 -- none of the names is ready
 abbrev pub IsStuck : List (List ℕ) → List ℕ → List Bool → Type 0
 IsStuck links names taken = (k : ℕ) → k < length names → ¬ (Ready taken links (get_or names k 0))
+
+-- the first ready name of the list, or none where none is ready
+abbrev pub SelectsReady : List (List ℕ) → List ℕ → List Bool → Option ℕ → Type 0
+SelectsReady links names taken selected = MatchOption selected (IsStuck links names taken) (IsFirstReady links names taken)
 
 -- the list is that long, and that many of its names, from the first on, are taken
 abbrev pub IsCursor : List Bool → List ℕ → ℕ → Type 0

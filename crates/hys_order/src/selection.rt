@@ -1,6 +1,6 @@
-ghost use Rattle.std.specs.Prelude.{◌≡◌, ◌<◌, ◌≤◌, ℕ, IfOk, IsTrue, ◌↔◌, MatchOption, length, true, false};
+ghost use Rattle.std.specs.Prelude.{◌≡◌, ◌<◌, ◌≤◌, IfOk, IsTrue, ◌↔◌, length, true, false};
 ghost use Rattle.std.proofs.Common.{get_or};
-ghost use Rattle.hys_order.specs.Links.{link, Passed, Below, IsFirstReady, Taking, IsStuck, AreCursors, AreLinks};
+ghost use Rattle.hys_order.specs.Links.{link, Passed, Below, Taking, IsStuck, AreCursors, AreLinks, SelectsReady};
 
 use crate::fault::OrderFault;
 use hys_base::List;
@@ -52,8 +52,7 @@ fn next_ready(
     requires links { AreLinks links.now }
     requires length { length cursors.old.items ≡ length links.now }
     requires cursors { AreCursors taken.now links.now cursors.old.items }
-    ensures first { MatchOption result (IsStuck links.now names.now taken.now)
-        (IsFirstReady links.now names.now taken.now) }
+    ensures first { SelectsReady links.now names.now taken.now result }
     ensures length { length cursors.new.items ≡ length links.now }
     ensures cursors { AreCursors taken.now links.now cursors.new.items }
 {

@@ -4,6 +4,8 @@ use Rattle.std.specs.Prelude.{ℕ, List, [], ◌∷◌, Some, None, codes, negsu
 use Rattle.hys_number.specs.Number.{Number, make}
 use Rattle.hys_number.specs.Ops.{whole}
 use Rattle.hys_lin.specs.Sums.{Assignment, at}
+use Rattle.hys_lin.specs.Operations.{plus}
+use Rattle.hys_lin.specs.declared.lost.Lost.{Lost}
 use Rattle.hys_lin.specs.declared.form.Affine.{Affine}
 use Rattle.hys_ast.specs.declared.source.Kind.TheVariants.{Real, Bool}
 use Rattle.hys_formula.specs.declared.formula.Formula.TheVariants.{Name as Named}
@@ -90,3 +92,7 @@ least = make (pos 1) 9223372036854775807
 
 abbrev pub minus_least : Number
 minus_least = make (negsuc 0) 9223372036854775807
+
+-- 5 less that number
+abbrev pub five_less_least : Lost
+five_less_least = plus (whole 5) minus_least

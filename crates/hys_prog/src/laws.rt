@@ -3,7 +3,6 @@
 ghost use Rattle.std.specs.Prelude.{◌≡◌, ◌<◌, [], ◌∷◌, List, IsTrue, None, Some, ℕ, ◌↔◌};
 ghost use Rattle.hys_number.specs.Number.{Number};
 ghost use Rattle.hys_number.specs.Ops.{whole, ◌<ₙ◌};
-ghost use Rattle.hys_lin.specs.Operations.{plus};
 ghost use Rattle.hys_prog.specs.Programs.{IsProgram};
 ghost use Rattle.hys_prog.specs.Orders.{IsOrder};
 ghost use Rattle.hys_prog.specs.Exactness.{HasAssignments, HasOneAssignment, HasOneStep, IsLegalExactly, PassesExactly, PassesWhereLegal, StepsAsGiven};
@@ -17,7 +16,7 @@ ghost use Rattle.hys_prog.specs.declared.program.Program.{Program};
 ghost use Rattle.hys_prog.specs.declared.program.Order.{Order};
 ghost use Rattle.hys_prog.specs.declared.stop.Stop.TheVariants.{Bounds, Gap, Must, Range};
 ghost use Rattle.hys_prog.specs.Example.{example, crossed as two_auxiliaries};
-ghost use Rattle.hys_prog.specs.Guarded.{at_tolerance, both, d_first, demanding, guarded, in_gap, least, minus_least};
+ghost use Rattle.hys_prog.specs.Guarded.{at_tolerance, both, d_first, demanding, guarded, in_gap, least, five_less_least};
 
 /// The program of one state x that keeps its value is a lawful program.
 pub fn smallest()
@@ -81,8 +80,7 @@ pub fn guard_stops()
     ensures tolerance { first_stop (stops guarded d_first (both at_tolerance (whole 0))) ≡ None }
     ensures tolerance_value { number_in (both at_tolerance (whole 0)) 1 guarded.items ≡ whole 0 }
     ensures outside { first_stop (stops guarded d_first (both (whole 11) (whole 1))) ≡ Some (Bounds 0) }
-    ensures range { first_stop (stops guarded d_first (both least (whole 0))) ≡
-        Some (Range 0 (plus (whole 5) minus_least)) }
+    ensures range { first_stop (stops guarded d_first (both least (whole 0))) ≡ Some (Range 0 five_less_least) }
 {}
 
 /// With a demand that stands first in the source the gap comes before it all the same; a demand

@@ -32,7 +32,7 @@ use Rattle.hys_rows.specs.declared.fault.RowFault.{RowFault}
 use Rattle.hys_rows.specs.Items.{fresh_in, AreColumns, Fits, AreBelow}
 use Rattle.hys_rows.specs.Moved.{moved}
 use Rattle.hys_rows.specs.Parts.{own_column, formula_stated, chosen_stated, body_stated, stated_in, literal_form, form_in, truths_in, part_of, Adds}
-use Rattle.hys_rows.specs.Adding.{FormBelow, BodyBelow, AddsBody}
+use Rattle.hys_rows.specs.Adding.{FormBelow, BodyBelow, AddsRows}
 use Rattle.hys_rows.proofs.Moving.{moved_each, moved_value}
 use Rattle.hys_rows.proofs.Placing.{boolean_variable, truth_boolean, real_variable, form_placed, formula_placed, literal_below}
 use Rattle.hys_rows.proofs.Meaning.{Halves, halves, literal_value, body_means}
@@ -185,7 +185,7 @@ body_few boxes columns k z (MustMost f) rs a = let x : length rs ≡ 1 = same_le
 body_few boxes columns k z (MustZero f) rs a = let x : length rs ≡ 2 = same_length rs _ a in omega arith
 
 -- ---- the whole item
-pub item_added : (boxes : List Interval) (columns : List ℕ) (k : ℕ) (t : ProgItem) (old new : List Row) (a : Added) → AddsBody boxes columns k (own_column columns t.name) t.body old new → a.fresh ≡ fresh_in columns t.body → a.form ≡ form_in columns k t.body →
+pub item_added : (boxes : List Interval) (columns : List ℕ) (k : ℕ) (t : ProgItem) (old new : List Row) (a : Added) → AddsRows (body_stated boxes columns k (own_column columns t.name) t.body) (BodyBelow columns k (own_column columns t.name) t.body) old new → a.fresh ≡ fresh_in columns t.body → a.form ≡ form_in columns k t.body →
     Adds boxes columns k t old new a
 item_added boxes columns k t old new a b e f = (
   b.0,
@@ -205,7 +205,7 @@ item_added boxes columns k t old new a b e f = (
   },
 )
 
-pub answer_added : (boxes : List Interval) (columns : List ℕ) (k : ℕ) (t : ProgItem) (old new : List Row) (r : Result Added RowFault) → IfOk r (λ a. AddsBody boxes columns k (own_column columns t.name) t.body old new) → IfOk r (λ a. a.fresh ≡ fresh_in columns t.body) → IfOk r (λ a. a.form ≡ form_in columns k t.body) →
+pub answer_added : (boxes : List Interval) (columns : List ℕ) (k : ℕ) (t : ProgItem) (old new : List Row) (r : Result Added RowFault) → IfOk r (λ a. AddsRows (body_stated boxes columns k (own_column columns t.name) t.body) (BodyBelow columns k (own_column columns t.name) t.body) old new) → IfOk r (λ a. a.fresh ≡ fresh_in columns t.body) → IfOk r (λ a. a.form ≡ form_in columns k t.body) →
     IfOk r (λ a. Adds boxes columns k t old new a)
 answer_added boxes columns k t old new (Ok a) b e f = item_added boxes columns k t old new a b e f
 answer_added boxes columns k t old new (Err x) b e f = tt

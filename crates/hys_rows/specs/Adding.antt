@@ -1,5 +1,6 @@
 -- What the bodies of items need of columns, and what helpers add.
-use Rattle.std.specs.Prelude.{◌≡◌, ℕ, ◌+◌, ◌<◌, ◌≤◌, List, [], ◌∷◌, ◌++◌, length}
+use Rattle.std.specs.Prelude.{◌≡◌, ℕ, ◌+◌, ◌<◌, ◌≤◌, List, [], ◌∷◌, ◌++◌, length, Vec, Result, IfOk}
+use Rattle.std.specs.declared.alloc.Global.{Global}
 use Rattle.hys_number.specs.Number.{Number}
 use Rattle.hys_number.specs.Ops.{◌<ₙ◌, whole}
 use Rattle.hys_lin.specs.declared.form.Affine.{Affine}
@@ -9,6 +10,7 @@ use Rattle.hys_lin.specs.Stated.{Stated, AreRows, EachBelow}
 use Rattle.hys_lin.specs.Sums.{AreTerms, EachColumn}
 use Rattle.hys_prog.specs.declared.program.Body.{Body}
 use Rattle.hys_prog.specs.declared.program.Body.TheVariants.{Guard, Choice, Logic, Linear, NextBool, NextReal, OutBool, OutReal, MustHold, MustMost, MustZero}
+use Rattle.hys_bound.specs.Ranges.{range}
 use Rattle.hys_formula.specs.declared.formula.Formula.{Formula}
 use Rattle.hys_formula.specs.Formulas.{tree_of}
 use Rattle.hys_logic.specs.declared.usage.Use.{Use}
@@ -18,6 +20,7 @@ use Rattle.hys_logic.specs.Meanings.{HaveColumns}
 use Rattle.hys_logic.specs.Uses.{fresh_count, IsFree}
 use Rattle.hys_guard.specs.Stated.{guard_stated, choice_stated, copy_stated}
 use Rattle.hys_rows.specs.declared.added.Added.{Added}
+use Rattle.hys_rows.specs.declared.fault.RowFault.{RowFault}
 use Rattle.hys_rows.specs.Items.{fresh_in}
 use Rattle.hys_rows.specs.Moved.{moved}
 use Rattle.hys_rows.specs.Parts.{at_most, at_least, no_form, literal_form, formula_stated, body_stated}
@@ -66,16 +69,6 @@ FormBelow f n = EachColumn (λ c. c < n) f.terms
 abbrev pub AddsRows : List Stated → (ℕ → Type 0) → List Row → List Row → Type 0
 AddsRows ss P old new = (more : List Row) × (new ≡ old ++ more) × AreRows more ss × ((n : ℕ) → P n → EachBelow n more)
 
--- the rows of a formula under a use were added
-abbrev pub AddsFormula : Use → List ℕ → ℕ → Formula → List Row → List Row → Type 0
-AddsFormula u columns k l old new =
-    AddsRows (formula_stated u columns k l) (λ n. k + fresh_count u (column_in columns) (tree_of l) ≤ n) old new
-
--- the rows of a formula that defines the column z were added
-abbrev pub AddsDefined : List ℕ → ℕ → ℕ → Formula → List Row → List Row → Type 0
-AddsDefined columns k z l old new =
-    AddsRows (formula_stated (Define z) columns k l) (λ n. k + fresh_in columns (Logic l) ≤ n) old new
-
 -- rows of the column z and a form were added
 abbrev pub AddsBeside : List Stated → ℕ → Affine → List Row → List Row → Type 0
 AddsBeside ss z f old new = AddsRows ss (λ n. (z < n) × FormBelow f n) old new
@@ -123,9 +116,36 @@ BodyBelow columns k z (MustHold l) n = k + fresh_in columns (MustHold l) ≤ n
 BodyBelow columns k z (MustMost f) n = FormBelow (moved columns f) n
 BodyBelow columns k z (MustZero f) n = FormBelow (moved columns f) n
 
--- the rows of the body were added
-abbrev pub AddsBody : List Interval → List ℕ → ℕ → ℕ → Body → List Row → List Row → Type 0
-AddsBody boxes columns k z b old new = AddsRows (body_stated boxes columns k z b) (BodyBelow columns k z b) old new
+-- ---- what is added to the code's list
+-- the rows of a formula under a use were added
+abbrev pub AddsFormula : Use → List ℕ → ℕ → Formula → Vec Row Global → Vec Row Global → Type 0
+AddsFormula u columns k l before after =
+    AddsRows (formula_stated u columns k l) (λ n. k + fresh_count u (column_in columns) (tree_of l) ≤ n)
+    before.items after.items
 
-abbrev pub AddsChoice : List Interval → List ℕ → ℕ → ℕ → Formula → Affine → Affine → List Row → List Row → Type 0
-AddsChoice boxes columns k z l a b old new = AddsBody boxes columns k z (Choice l a b) old new
+-- the rows of a formula that defines the column z were added
+abbrev pub AddsDefined : List ℕ → ℕ → ℕ → Formula → Vec Row Global → Vec Row Global → Type 0
+AddsDefined columns k z l before after =
+    AddsRows (formula_stated (Define z) columns k l) (λ n. k + fresh_in columns (Logic l) ≤ n) before.items after.items
+
+-- the rows of a guard were added, whose number has its range over the intervals of names
+abbrev pub AddsGuardOver : List Interval → List ℕ → Affine → Number → ℕ → Vec Row Global → Vec Row Global → Type 0
+AddsGuardOver boxes columns f e z before after = AddsGuard columns f (range boxes f) e z before.items after.items
+
+-- the rows of the body were added
+abbrev pub AddsBody : List Interval → List ℕ → ℕ → ℕ → Body → Vec Row Global → Vec Row Global → Type 0
+AddsBody boxes columns k z b before after =
+    AddsRows (body_stated boxes columns k z b) (BodyBelow columns k z b) before.items after.items
+
+-- where it succeeds, the rows of a choice were added
+abbrev pub AddsChoice : {X : Type 0} →
+    List Interval → List ℕ → ℕ → ℕ → Formula → Affine → Affine → Vec Row Global → Vec Row Global →
+    Result X RowFault → Type 0
+AddsChoice boxes columns k z l a b before after r = IfOk r (λ _. AddsBody boxes columns k z (Choice l a b) before after)
+
+-- where it succeeds, the rows of both cases of a choice by a literal were added, whose forms have these ranges
+abbrev pub AddsCases : {X : Type 0} →
+    List ℕ → Affine → Affine → Interval → Affine → Interval → ℕ → Vec Row Global → Vec Row Global →
+    Result X RowFault → Type 0
+AddsCases columns l a i b j z before after r =
+    IfOk r (λ _. AddsChosen columns l a i b j z before.items after.items)

@@ -61,6 +61,10 @@ pub record AreColumns (names : List Name) (columns : List ℕ) (k count : ℕ) :
 abbrev pub AreAlike : List Name → List ℕ → List ℕ → Type 0
 AreAlike names columns others = (n : ℕ) → NameAt names n IsBooleanVariable → column_in columns n ≡ column_in others n
 
+-- each body over the names has as many fresh columns with the ones as with the others
+abbrev pub HaveSameCounts : List Name → List ℕ → List ℕ → Type 0
+HaveSameCounts names columns others = (b : Body) → BodyOver names b → fresh_in columns b ≡ fresh_in others b
+
 -- The body is over the names, the item defines a name that its body suits, or none where it demands something, and the
 -- name isn't mentioned in its own definition.
 pub record IsItem (names : List Name) (t : ProgItem) : Type 0 where

@@ -35,8 +35,7 @@ pub fn add_body(
     requires placed { IsPlacedBody boxes.now columns.now first_free own body.now }
     requires room { first_free + body_connectives body.now ≤ 2 ^ 32 }
     requires count { body_connectives body.now < 2 ^ 32 }
-    ensures added { IfOk result (λ _.
-        AddsBody boxes.now columns.now first_free own body.now rows.old.items rows.new.items) }
+    ensures added { IfOk result (λ _. AddsBody boxes.now columns.now first_free own body.now rows.old rows.new) }
     ensures fresh { IfOk result (λ a. a.fresh ≡ fresh_in columns.now body.now) }
     ensures form { IfOk result (λ a. a.form ≡ form_in columns.now first_free body.now) }
     ensures judged { Judged (numbers_of boxes.now columns.now first_free body.now) result }
@@ -73,8 +72,7 @@ fn add_logic(
     requires free { IsFree (Define own) columns.now first_free (tree_of formula.now) }
     requires room { first_free + connectives (tree_of formula.now) ≤ 2 ^ 32 }
     requires count { connectives (tree_of formula.now) < 2 ^ 32 }
-    ensures added { IfOk result (λ _.
-        AddsDefined columns.now first_free own formula.now rows.old.items rows.new.items) }
+    ensures added { IfOk result (λ _. AddsDefined columns.now first_free own formula.now rows.old rows.new) }
     ensures fresh { IfOk result (λ a. a.fresh ≡ fresh_in columns.now (Logic formula.now)) }
     ensures form { IfOk result (λ a. a.form ≡ no_form) }
 {
@@ -93,8 +91,7 @@ fn add_must(
     requires names { IsPlacedFormula columns.now first_free formula.now }
     requires room { first_free + connectives (tree_of formula.now) ≤ 2 ^ 32 }
     requires count { connectives (tree_of formula.now) < 2 ^ 32 }
-    ensures added { IfOk result (λ _.
-        AddsFormula Require columns.now first_free formula.now rows.old.items rows.new.items) }
+    ensures added { IfOk result (λ _. AddsFormula Require columns.now first_free formula.now rows.old rows.new) }
     ensures fresh { IfOk result (λ a. a.fresh ≡ fresh_in columns.now (MustHold formula.now)) }
     ensures form { IfOk result (λ a. a.form ≡ no_form) }
 {

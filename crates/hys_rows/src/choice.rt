@@ -5,7 +5,7 @@ ghost use Rattle.hys_rows.specs.Items.{fresh_in};
 ghost use Rattle.hys_rows.specs.Moved.{moved as moved_form};
 ghost use Rattle.hys_rows.specs.Numbers.{Judged, moved_numbers, numbers_of};
 ghost use Rattle.hys_rows.specs.Parts.{literal_form, no_form};
-ghost use Rattle.hys_rows.specs.Adding.{IsPlacedFormula, IsPlaced, IsBoxed, IsApart, AddsChoice, AddsChosen};
+ghost use Rattle.hys_rows.specs.Adding.{IsPlacedFormula, IsPlaced, IsBoxed, IsApart, AddsChoice, AddsCases};
 
 use crate::added::{Added, only_fresh};
 use crate::fault::RowFault;
@@ -39,8 +39,7 @@ pub fn add_choice(
     requires other_placed { IsPlaced columns.now other.now }
     requires other_boxed { IsBoxed boxes.now other.now }
     requires other_apart { IsApart own (moved_form columns.now other.now) }
-    ensures added { IfOk result (λ _.
-        AddsChoice boxes.now columns.now first_free own when.now hit.now other.now rows.old.items rows.new.items) }
+    ensures added { AddsChoice boxes.now columns.now first_free own when.now hit.now other.now rows.old rows.new result }
     ensures fresh { IfOk result (λ a. a.fresh ≡ fresh_in columns.now (Choice when.now hit.now other.now)) }
     ensures form { IfOk result (λ a. a.form ≡ no_form) }
     ensures judged { Judged (numbers_of boxes.now columns.now first_free (Choice when.now hit.now other.now)) result }
@@ -72,8 +71,7 @@ fn add_chosen(
     requires hit_apart { IsApart own (moved_form columns.now hit.now) }
     requires other_placed { IsPlaced columns.now other.now }
     requires other_apart { IsApart own (moved_form columns.now other.now) }
-    ensures added { IfOk result (λ _.
-        AddsChosen columns.now literal.now hit.now hit_range other.now other_range own rows.old.items rows.new.items) }
+    ensures added { AddsCases columns.now literal.now hit.now hit_range other.now other_range own rows.old rows.new result }
     ensures judged { Judged (moved_numbers columns.now literal.now hit.now hit_range other.now other_range) result }
 {
     let first = moved(alloc, hit, columns)?;

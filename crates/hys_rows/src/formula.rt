@@ -34,8 +34,7 @@ pub fn add_read(
     requires names { HaveColumns columns.now first_free (tree_of formula.now) }
     requires room { first_free + connectives (tree_of formula.now) ≤ 2 ^ 32 }
     requires count { connectives (tree_of formula.now) < 2 ^ 32 }
-    ensures added { IfOk result (λ _.
-        AddsFormula Read columns.now first_free formula.now rows.old.items rows.new.items) }
+    ensures added { IfOk result (λ _. AddsFormula Read columns.now first_free formula.now rows.old rows.new) }
     ensures fresh { IfOk result (λ a. a.fresh ≡ fresh_count Read (column_in columns.now) (tree_of formula.now)) }
     ensures form { IfOk result (λ a. a.form ≡ literal_form columns.now first_free formula.now) }
 {
@@ -60,8 +59,7 @@ pub fn add_defined(
     requires free { IsFree (Define own) columns.now first_free (tree_of formula.now) }
     requires room { first_free + connectives (tree_of formula.now) ≤ 2 ^ 32 }
     requires count { connectives (tree_of formula.now) < 2 ^ 32 }
-    ensures added { IfOk result (λ _.
-        AddsFormula (Define own) columns.now first_free formula.now rows.old.items rows.new.items) }
+    ensures added { IfOk result (λ _. AddsFormula (Define own) columns.now first_free formula.now rows.old rows.new) }
     ensures fresh { IfOk result (λ n. n ≡ fresh_count (Define own) (column_in columns.now) (tree_of formula.now)) }
 {
     let logic = define_rows(alloc, formula, columns, own, first_free)?;
@@ -80,8 +78,7 @@ pub fn add_required(
     requires names { HaveColumns columns.now first_free (tree_of formula.now) }
     requires room { first_free + connectives (tree_of formula.now) ≤ 2 ^ 32 }
     requires count { connectives (tree_of formula.now) < 2 ^ 32 }
-    ensures added { IfOk result (λ _.
-        AddsFormula Require columns.now first_free formula.now rows.old.items rows.new.items) }
+    ensures added { IfOk result (λ _. AddsFormula Require columns.now first_free formula.now rows.old rows.new) }
     ensures fresh { IfOk result (λ n. n ≡ fresh_count Require (column_in columns.now) (tree_of formula.now)) }
 {
     let logic = must_rows(alloc, formula, columns, first_free)?;

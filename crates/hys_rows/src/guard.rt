@@ -1,12 +1,10 @@
-ghost use Rattle.std.specs.Prelude.{◌≡◌, ◌++◌, IfOk, []};
+ghost use Rattle.std.specs.Prelude.{IfOk, []};
 ghost use Rattle.hys_number.specs.Ops.{whole, ◌<ₙ◌};
-ghost use Rattle.hys_bound.specs.Ranges.{range as range_over};
-ghost use Rattle.hys_prog.specs.declared.program.Body.TheVariants.{Guard, Linear};
+ghost use Rattle.hys_prog.specs.declared.program.Body.TheVariants.{Guard};
 ghost use Rattle.hys_guard.specs.Numbers.{guard_numbers};
-ghost use Rattle.hys_guard.specs.Stated.{guard_stated, copy_stated};
 ghost use Rattle.hys_rows.specs.Moved.{moved as moved_form};
 ghost use Rattle.hys_rows.specs.Numbers.{Judged, numbers_of};
-ghost use Rattle.hys_rows.specs.Adding.{IsPlaced, IsBoxed, IsApart, AddsGuard, AddsCopy, HasNothing};
+ghost use Rattle.hys_rows.specs.Adding.{IsPlaced, IsBoxed, IsApart, AddsGuard, AddsGuardOver, AddsCopy, HasNothing};
 
 use crate::added::{Added, nothing};
 use crate::fault::RowFault;
@@ -31,8 +29,7 @@ pub fn add_guard(
     requires placed { IsPlaced columns.now number.now }
     requires boxed { IsBoxed boxes.now number.now }
     requires apart { IsApart own (moved_form columns.now number.now) }
-    ensures added { IfOk result (λ _.
-        AddsGuard columns.now number.now (range_over boxes.now number.now) eps own rows.old.items rows.new.items) }
+    ensures added { IfOk result (λ _. AddsGuardOver boxes.now columns.now number.now eps own rows.old rows.new) }
     ensures nothing { IfOk result (λ a. HasNothing a) }
     ensures judged { Judged (numbers_of boxes.now columns.now 0 (Guard number.now eps)) result }
 {

@@ -2,13 +2,11 @@
 
 ghost use Rattle.std.specs.Prelude.{◌≡◌, ℕ, List, [], ◌∷◌};
 ghost use Rattle.hys_prog.specs.declared.program.Name.{Name};
-ghost use Rattle.hys_prog.specs.declared.program.Body.{Body};
 ghost use Rattle.hys_prog.specs.Guarded.{guarded, d_first, d_item};
-ghost use Rattle.hys_prog.specs.Programs.{BodyOver};
 ghost use Rattle.hys_lin.specs.Stated.{AreRows};
 ghost use Rattle.hys_bound.specs.Ranges.{intervals};
 ghost use Rattle.hys_exact.specs.Example.{guard_system};
-ghost use Rattle.hys_rows.specs.Items.{fresh_in, AreAlike, Fits};
+ghost use Rattle.hys_rows.specs.Items.{AreAlike, HaveSameCounts, Fits};
 ghost use Rattle.hys_rows.specs.Moved.{moved};
 ghost use Rattle.hys_rows.specs.Numbers.{numbers_of};
 ghost use Rattle.hys_rows.specs.Parts.{stated_in};
@@ -17,8 +15,7 @@ ghost use Rattle.hys_rows.specs.Example.{before, behind, places, guard_operation
 /// The number of an item's fresh columns depends on the columns of Boolean names alone: so it can
 /// be counted before real auxiliaries have theirs.
 pub fn fresh_counts()
-    ensures { (names : List Name) (columns others : List ℕ) (b : Body) → BodyOver names b →
-        AreAlike names columns others → fresh_in columns b ≡ fresh_in others b }
+    ensures { (names : List Name) (cs ds : List ℕ) → AreAlike names cs ds → HaveSameCounts names cs ds }
 {}
 
 /// A form over two names whose columns fall is a form over the columns in their order. The guard of

@@ -1,7 +1,7 @@
 -- Exactness of a system for an automaton: its rows have a solution exactly where the automaton has a legal
 -- step, there is one of each, and they agree. The relation of legal steps is a parameter, so that it may be
 -- that of a source's tree or of a program.
-use Rattle.std.specs.Prelude.{◌≡◌, ℕ, zero, suc, ◌<◌, List, [], ◌∷◌, ◌++◌, length, map, filter, All, HoldsAt, Bool, true, false, not, codes}
+use Rattle.std.specs.Prelude.{◌≡◌, ◌↔◌, ℕ, zero, suc, ◌<◌, List, [], ◌∷◌, ◌++◌, length, map, filter, All, HoldsAt, Bool, true, false, not, codes}
 use Rattle.std.specs.Fmt.{decimal}
 use Rattle.hys_number.specs.Number.{Number}
 use Rattle.hys_lin.specs.Sums.{at, value, Within}
@@ -122,3 +122,12 @@ pub record ExactAt (A : Automaton) (Step : Steps) (S : System) (x u : List Numbe
 pub record Exact (A : Automaton) (Step : Steps) (S : System) : Type 0 where
   pub arranged : Arranged A S
   pub at_each : (x u : List Number) → AreIn A.states x → AreIn A.inputs u → ExactAt A Step S x u
+
+-- ---- relations of steps
+-- two relations have the same steps
+abbrev pub AreSameSteps : Steps → Steps → Type 0
+AreSameSteps legal other = (x u : List Number) (w : Named) (next y : List Number) → legal x u w next y ↔ other x u w next y
+
+-- a system that is exact for the one is exact for the other
+abbrev pub IsExactAlike : Steps → Steps → Type 0
+IsExactAlike legal other = (A : Automaton) (S : System) → Exact A legal S → Exact A other S

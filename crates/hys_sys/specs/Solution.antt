@@ -10,6 +10,7 @@ use Rattle.hys_lin.specs.declared.form.Row.{Row}
 use Rattle.hys_lin.specs.declared.lost.Lost.{Lost}
 use Rattle.hys_sys.specs.declared.system.Kind2.{Kind2}
 use Rattle.hys_sys.specs.declared.system.Kind2.TheVariants.{Real, Bool}
+use Rattle.hys_sys.specs.declared.system.Column.{Column}
 use Rattle.hys_sys.specs.declared.system.System.{System}
 
 -- a number of the kind: of a Boolean column that is 0 or 1
@@ -17,11 +18,15 @@ abbrev pub IsOfKind : Kind2 → Number → Type 0
 IsOfKind Real a = Unit {0}
 IsOfKind Bool a = IsBit a
 
+-- each column has a number of its kind
+abbrev pub AreOfKinds : List Column → List Number → Type 0
+AreOfKinds columns v = (i : ℕ) → i < length columns → HoldsAt (λ c. IsOfKind c.kind (at v i)) columns i
+
 -- a number for each column, of its kind, with which every row holds
 pub record Solution (S : System) (v : List Number) : Type 0 where
   pub long : length v ≡ length S.columns
   pub rows : HoldAll (at v) S.rows
-  pub kinds : (i : ℕ) → i < length S.columns → HoldsAt (λ c. IsOfKind c.kind (at v i)) S.columns i
+  pub kinds : AreOfKinds S.columns v
 
 -- the first product or partial sum of the row's terms that doesn't fit
 abbrev pub loss : List Number → Row → Option Lost

@@ -1,7 +1,7 @@
-ghost use Rattle.std.specs.Prelude.{◌≡◌, ◌<◌, length, IfOk, IsTrue, ◌↔◌, Err, All, HoldsAt, ℕ};
+ghost use Rattle.std.specs.Prelude.{◌≡◌, ◌<◌, length, IfOk, IsTrue, ◌↔◌, Err, All};
 ghost use Rattle.hys_lin.specs.Sums.{HoldAll, EachColumn, at};
 ghost use Rattle.hys_lin.specs.declared.lost.Lost.{Lost as Loss};
-ghost use Rattle.hys_sys.specs.Solution.{Solution, LostAt, IsOfKind};
+ghost use Rattle.hys_sys.specs.Solution.{Solution, LostAt, AreOfKinds};
 ghost use Rattle.hys_lin.specs.Bits.{IsBit};
 
 use crate::system::{Column, Kind2, System};
@@ -42,8 +42,7 @@ fn rows_hold(rows: &[Row], point: &Point) -> Result<bool, Lost>
 // Whether each Boolean column has 0 or 1.
 fn are_of_kinds(columns: &[Column], values: &[Frac]) -> bool
     requires { length values.now ≡ length columns.now }
-    ensures { IsTrue result ↔ ((i : ℕ) → i < length columns.now →
-        HoldsAt (λ c. IsOfKind c.kind (at values.now i)) columns.now i) }
+    ensures { IsTrue result ↔ AreOfKinds columns.now values.now }
 {
     for i in 0..columns.len() {
         if columns[i].kind == Kind2::Bool && !is_bit(values[i]) {

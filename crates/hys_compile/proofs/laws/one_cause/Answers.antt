@@ -16,4 +16,4 @@ pub returns-clause-one : goal.returns-clause-one
 returns-clause-one c = λ tolerance text f g. same_cause tolerance text f g (only c text)
 
 pub returns-clause-none : goal.returns-clause-none
-returns-clause-none c = λ tolerance text f. no_cause tolerance text f (only c text)
+returns-clause-none c = λ tolerance text k f. no_cause tolerance text f (only c text) k

@@ -3,4 +3,4 @@ use Rattle.hys_compile.proofs.OneList.{same_numbers}
 use Rattle.hys_compile.proofs.laws.same_range_numbers.Goals as goal
 
 pub returns : goal.returns
-returns c = λ tolerance other s. same_numbers tolerance other (unfolded s)
+returns c = λ s p q a b o r. same_numbers a.tolerance b.tolerance (unfolded s) p q o r a.translation b.translation
