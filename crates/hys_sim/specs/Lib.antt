@@ -2,6 +2,7 @@ pub mod Checks
 pub mod Fields
 pub mod Tables
 pub mod Recorded
+pub mod Views
 pub mod Runs
 pub mod Written
 pub mod Simulations

@@ -5,7 +5,7 @@ use Rattle.hys_prog.specs.declared.program.Program.{Program}
 use Rattle.hys_prog.specs.declared.program.Order.{Order}
 use Rattle.hys_prog.specs.Steps.{is_state, is_input}
 use Rattle.hys_sim.specs.declared.fault.Simulated.{Simulated}
-use Rattle.hys_sim.specs.Tables.{names_of, table_records, table_values}
+use Rattle.hys_sim.specs.Tables.{role_values}
 use Rattle.hys_sim.specs.Runs.{Transition, IsRun}
 use Rattle.hys_sim.specs.Written.{run_text}
 
@@ -19,5 +19,5 @@ pub record IsRunOf (p : Program) (o : Order) (x : List Number) (us : List (List 
 -- START has one record, with the values of a state, and the answer is of the run from it through INPUTS
 pub record IsSimulated (p : Program) (o : Order) (start inputs : List ℕ) (r : Simulated) : Type 0 where
   pub state : List Number
-  pub started : table_values (names_of is_state p) (table_records start) ≡ state ∷ []
-  pub runs : IsRunOf p o state (table_values (names_of is_input p) (table_records inputs)) r
+  pub started : role_values is_state p start ≡ state ∷ []
+  pub runs : IsRunOf p o state (role_values is_input p inputs) r

@@ -13,8 +13,9 @@ use Rattle.hys_prog.specs.declared.program.Program.{Program}
 use Rattle.hys_prog.specs.Steps.{is_state, is_input, is_parameter}
 use Rattle.hys_sim.specs.declared.fault.Which.{Which}
 use Rattle.hys_sim.specs.declared.fault.Which.TheVariants.{Start, Inputs}
+use Rattle.hys_sim.specs.declared.fault.SimFault.{SimFault}
 use Rattle.hys_sim.specs.declared.fault.SimFault.TheVariants.{Csv, Rows, Column, Value, Limit}
-use Rattle.hys_sim.specs.Checks.{Check, check}
+use Rattle.hys_sim.specs.Checks.{Check, check, first_fault}
 use Rattle.hys_sim.specs.Fields.{stripped, field_reading, field_number, says, suits}
 
 -- the records of a table, each a list of fields: those that `csv` reads by default, with no header row of its own and
@@ -39,26 +40,36 @@ kind_under (k ∷ ks) text = cond (bytes_eq k.text text) (Some k.kind) (kind_und
 abbrev pub kind_of : List Name → List ℕ → Kind
 kind_of names text = unwrap_or (kind_under names text) Real
 
+-- the kinds of columns
+abbrev pub kinds_under : List Name → List (List ℕ) → List Kind
+kinds_under names columns = map (kind_of names) columns
+
 abbrev pub is_among : List ℕ → List (List ℕ) → Bool
 is_among text texts = list_any (bytes_eq text) texts
 
 -- ---- the checks of the header
--- each field is text
+-- a field is text
+abbrev pub text_check : Which → List ℕ → Check
+text_check w f = check (is_utf8 f) (Csv w 0)
+
+-- each field is
 abbrev pub text_checks : Which → List (List ℕ) → List Check
 text_checks w [] = []
-text_checks w (f ∷ fs) = check (is_utf8 f) (Csv w 0) ∷ text_checks w fs
+text_checks w (f ∷ fs) = text_check w f ∷ text_checks w fs
 
 -- each record, from the one with this number on, has as many fields as the header
 abbrev pub length_checks : Which → ℕ → ℕ → List (List (List ℕ)) → List Check
 length_checks w n r [] = []
 length_checks w n r (fs ∷ rows) = check (nat_eq (length fs) n) (Csv w r) ∷ length_checks w n (suc r) rows
 
+-- a field is one of the names, and none of those seen before it
+abbrev pub column_check : Which → List Name → List (List ℕ) → List ℕ → Check
+column_check w names seen f = check (is_some (kind_under names f) && not (is_among f seen)) (Column w f)
+
 -- each field after the first is one of the names, and none of those seen between it and the first
 abbrev pub column_checks : Which → List Name → List (List ℕ) → List (List ℕ) → List Check
 column_checks w names seen [] = []
-column_checks w names seen (f ∷ fs) =
-    check (is_some (kind_under names f) && not (is_among f seen)) (Column w f) ∷
-    column_checks w names (seen ++ (f ∷ [])) fs
+column_checks w names seen (f ∷ fs) = column_check w names seen f ∷ column_checks w names (seen ++ (f ∷ [])) fs
 
 -- each name is one of the fields
 abbrev pub missing_checks : Which → List Name → List (List ℕ) → List Check
@@ -111,7 +122,7 @@ head_checks w names (h ∷ rows) =
 abbrev pub table_checks_of : Which → List Name → (ℕ → List Check) → List (List (List ℕ)) → List Check
 table_checks_of w names counts rows =
     head_checks w names rows ++
-    (counts (length (data_of rows)) ++ records_checks w (map (kind_of names) (columns_of rows)) 0 (data_of rows))
+    (counts (length (data_of rows)) ++ records_checks w (kinds_under names (columns_of rows)) 0 (data_of rows))
 
 -- START has one record
 abbrev pub start_counts : ℕ → List Check
@@ -131,6 +142,10 @@ inputs_checks p text = table_checks_of Inputs (names_of is_input p) (inputs_coun
 abbrev pub table_checks : Program → List ℕ → List ℕ → List Check
 table_checks p start inputs = start_checks p start ++ inputs_checks p inputs
 
+-- the fault of the two, if they have one
+abbrev pub table_fault : Program → List ℕ → List ℕ → Option SimFault
+table_fault p start inputs = first_fault (table_checks p start inputs)
+
 -- ---- what a table stands for
 -- the place of the column of a name, where the columns follow the field of the step
 abbrev pub column_place : List (List ℕ) → List ℕ → ℕ
@@ -147,3 +162,24 @@ places_under names columns = map (λ k. column_place columns k.text) names
 -- the numbers under the names of each record after the header
 abbrev pub table_values : List Name → List (List (List ℕ)) → List (List Number)
 table_values names rows = map (values_at (places_under names (columns_of rows))) (data_of rows)
+
+-- ---- what the text of a table stands for
+-- the fields of its header after the first
+abbrev pub table_columns : List ℕ → List (List ℕ)
+table_columns text = columns_of (table_records text)
+
+-- its records after the header
+abbrev pub table_data : List ℕ → List (List (List ℕ))
+table_data text = data_of (table_records text)
+
+-- the numbers of each of these at the places
+abbrev pub data_at : List ℕ → List ℕ → List (List Number)
+data_at places text = map (values_at places) (table_data text)
+
+-- the places of the columns of the names with a role of the part
+abbrev pub role_places : (Role → Bool) → Program → List ℕ → List ℕ
+role_places part p text = places_under (names_of part p) (table_columns text)
+
+-- the numbers of each record under these names
+abbrev pub role_values : (Role → Bool) → Program → List ℕ → List (List Number)
+role_values part p text = table_values (names_of part p) (table_records text)

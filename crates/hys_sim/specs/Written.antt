@@ -5,6 +5,7 @@ use Rattle.hys_number.specs.Number.{Number}
 use Rattle.hys_frac.specs.Written.{number_text}
 use Rattle.hys_prog.specs.declared.program.Role.{Role}
 use Rattle.hys_prog.specs.declared.program.Program.{Program}
+use Rattle.hys_prog.specs.declared.stop.Stepped.{Stepped}
 use Rattle.hys_prog.specs.Programs.{text_of}
 use Rattle.hys_prog.specs.Steps.{is_state, is_input, is_auxiliary, is_output}
 use Rattle.hys_sim.specs.Tables.{names_of}
@@ -38,6 +39,10 @@ abbrev pub transition_text : ℕ → Transition → List ℕ
 transition_text n t =
     record_text (decimal n) (numbers_text t.state ++ (numbers_text t.input ++
     (numbers_text t.stepped.aux ++ numbers_text t.stepped.outputs)))
+
+-- the same of a step from a state with inputs
+abbrev pub step_text : ℕ → List Number → List Number → Stepped → List ℕ
+step_text n x u s = transition_text n (record { state = x; input = u; stepped = s })
 
 -- the transitions, of which the first is step n
 abbrev pub transitions_text : ℕ → List Transition → List ℕ

@@ -1,12 +1,10 @@
-ghost use Rattle.std.specs.Prelude.{◌≡◌, ◌⊎◌, ◌∷◌, [], ◌&&◌, drop, get_or, is_some, length, map, not, suc, Some, IfOk};
-ghost use Rattle.std.specs.Str.{is_utf8};
+ghost use Rattle.std.specs.Prelude.{◌≡◌, ◌⊎◌, ◌∷◌, [], length, suc, Some, IfOk};
 ghost use Rattle.csv.specs.Records.{fields_of};
 ghost use Rattle.hys_sim.specs.Checks.{Judged, check};
-ghost use Rattle.hys_sim.specs.Tables.{column_checks, column_place, head_checks, header_checks, is_among, kind_of, kind_under as kind_of_first, length_checks, missing_checks, places_under, text_checks};
-ghost use Rattle.hys_sim.specs.Recorded.{IsReading, records_left};
-ghost use Rattle.hys_sim.specs.Tables.{columns_of, data_of, table_records};
-ghost use Rattle.hys_sim.specs.Fields.{stripped};
+ghost use Rattle.hys_sim.specs.Tables.{column_checks, column_place, head_checks, header_checks, is_among, kind_of, length_checks, missing_checks, places_under, text_checks, column_check, kinds_under, table_columns, table_data, table_records, text_check};
+ghost use Rattle.hys_sim.specs.Recorded.{IsReading};
 ghost use Rattle.hys_sim.specs.declared.fault.SimFault.TheVariants.{Column, Csv, Memory};
+ghost use Rattle.hys_sim.specs.Views.{field_in, header_columns, header_fields, left_in, lent};
 
 use crate::fault::{SimFault, Which};
 use crate::names::{is_one_of, kind_under};
@@ -40,12 +38,10 @@ pub fn number_after(number: u32) -> Result<u32, AllocError>
 
 /// The head of a table with columns for the names, where its records are as long as its header.
 pub fn head_of(alloc: Global, which: Which, names: &[&Name], text: &[u8]) -> Result<Head, SimFault>
-    ensures judged { Judged (head_checks which (map (λ k. k.now) names.now) (table_records text.now)) result }
-    ensures count { IfOk result (λ h. h.count ≡ length (data_of (table_records text.now))) }
-    ensures kinds { IfOk result (λ h.
-        h.layout.kinds.items ≡ map (kind_of (map (λ k. k.now) names.now)) (columns_of (table_records text.now))) }
-    ensures places { IfOk result (λ h.
-        h.layout.places.items ≡ places_under (map (λ k. k.now) names.now) (columns_of (table_records text.now))) }
+    ensures judged { Judged (head_checks which (lent names.now) (table_records text.now)) result }
+    ensures count { IfOk result (λ h. h.count ≡ length (table_data text.now)) }
+    ensures kinds { IfOk result (λ h. h.layout.kinds.items ≡ kinds_under (lent names.now) (table_columns text.now)) }
+    ensures places { IfOk result (λ h. h.layout.places.items ≡ places_under (lent names.now) (table_columns text.now)) }
 {
     let mut reader = reader_of(alloc, text);
     let mut header = ByteRecord::new(alloc);
@@ -65,13 +61,10 @@ fn head_under(
     reader: &mut Reader<&[u8]>,
 ) -> Result<Head, SimFault>
     requires { IsReading (λ s. Some s.now) reader.old }
-    ensures judged { Judged (head_checks which (map (λ k. k.now) names.now)
-        (fields_of header.now ∷ records_left (λ s. Some s.now) reader.old)) result }
-    ensures count { IfOk result (λ h. h.count ≡ length (records_left (λ s. Some s.now) reader.old)) }
-    ensures kinds { IfOk result (λ h. h.layout.kinds.items ≡
-        map (kind_of (map (λ k. k.now) names.now)) (drop 1 (map stripped (fields_of header.now)))) }
-    ensures places { IfOk result (λ h. h.layout.places.items ≡
-        places_under (map (λ k. k.now) names.now) (drop 1 (map stripped (fields_of header.now)))) }
+    ensures judged { Judged (head_checks which (lent names.now) (fields_of header.now ∷ left_in reader.old)) result }
+    ensures count { IfOk result (λ h. h.count ≡ length (left_in reader.old)) }
+    ensures kinds { IfOk result (λ h. h.layout.kinds.items ≡ kinds_under (lent names.now) (header_columns header.now)) }
+    ensures places { IfOk result (λ h. h.layout.places.items ≡ places_under (lent names.now) (header_columns header.now)) }
 {
     let texts = match texts_of(alloc, which, header) {
         Ok(texts) => texts,
@@ -92,8 +85,8 @@ fn head_under(
 
 // The fields of the header, stripped, where each is text.
 fn texts_of(alloc: Global, which: Which, header: &ByteRecord) -> Result<Vec<&str>, SimFault>
-    ensures judged { Judged (text_checks which (map stripped (fields_of header.now))) result }
-    ensures value { IfOk result (λ ts. map (λ t. t.now) ts.items ≡ map stripped (fields_of header.now)) }
+    ensures judged { Judged (text_checks which (header_fields header.now)) result }
+    ensures value { IfOk result (λ ts. lent ts.items ≡ header_fields header.now) }
 {
     let mut texts = Vec::new(alloc);
     for place in 0..header.len() {
@@ -107,9 +100,8 @@ fn texts_of(alloc: Global, which: Which, header: &ByteRecord) -> Result<Vec<&str
 
 // The field of the header at the place, stripped, where it is text.
 fn text_at(which: Which, header: &ByteRecord, place: usize) -> Result<&str, SimFault>
-    ensures judged { Judged
-        (check (is_utf8 (stripped (get_or (fields_of header.now) place []))) (Csv which 0) ∷ []) result }
-    ensures value { IfOk result (λ t. t.now ≡ stripped (get_or (fields_of header.now) place [])) }
+    ensures judged { Judged (text_check which (field_in header.now place) ∷ []) result }
+    ensures value { IfOk result (λ t. t.now ≡ field_in header.now place) }
 {
     match str::from_utf8(field_at(header, place)) {
         Ok(text) => Ok(text),
@@ -126,8 +118,8 @@ fn count_records(
     reader: &mut Reader<&[u8]>,
 ) -> Result<u32, SimFault>
     requires { IsReading (λ s. Some s.now) reader.old }
-    ensures judged { Judged (length_checks which width 1 (records_left (λ s. Some s.now) reader.old)) result }
-    ensures value { IfOk result (λ n. n ≡ length (records_left (λ s. Some s.now) reader.old)) }
+    ensures judged { Judged (length_checks which width 1 (left_in reader.old)) result }
+    ensures value { IfOk result (λ n. n ≡ length (left_in reader.old)) }
 {
     let mut row = ByteRecord::new(alloc);
     let mut count = 0u32;
@@ -159,12 +151,9 @@ fn layout_of(
     first: &str,
     columns: &[&str],
 ) -> Result<Layout, SimFault>
-    ensures judged { Judged (header_checks which (map (λ k. k.now) names.now)
-        (first.now ∷ map (λ t. t.now) columns.now)) result }
-    ensures kinds { IfOk result (λ l.
-        l.kinds.items ≡ map (kind_of (map (λ k. k.now) names.now)) (map (λ t. t.now) columns.now)) }
-    ensures places { IfOk result (λ l.
-        l.places.items ≡ places_under (map (λ k. k.now) names.now) (map (λ t. t.now) columns.now)) }
+    ensures judged { Judged (header_checks which (lent names.now) (first.now ∷ lent columns.now)) result }
+    ensures kinds { IfOk result (λ l. l.kinds.items ≡ kinds_under (lent names.now) (lent columns.now)) }
+    ensures places { IfOk result (λ l. l.places.items ≡ places_under (lent names.now) (lent columns.now)) }
 {
     if first != "step" {
         return Err(wrong(alloc, which, first));
@@ -187,10 +176,8 @@ fn kinds_of(
     names: &[&Name],
     columns: &[&str],
 ) -> Result<Vec<Kind>, SimFault>
-    ensures judged { Judged
-        (column_checks which (map (λ k. k.now) names.now) [] (map (λ t. t.now) columns.now)) result }
-    ensures value { IfOk result (λ ks.
-        ks.items ≡ map (kind_of (map (λ k. k.now) names.now)) (map (λ t. t.now) columns.now)) }
+    ensures judged { Judged (column_checks which (lent names.now) [] (lent columns.now)) result }
+    ensures value { IfOk result (λ ks. ks.items ≡ kinds_under (lent names.now) (lent columns.now)) }
 {
     let mut kinds = Vec::new(alloc);
     for (place, column) in columns.iter().enumerate() {
@@ -210,9 +197,8 @@ fn kind_at(
     seen: &[&str],
     column: &str,
 ) -> Result<Kind, SimFault>
-    ensures judged { Judged (check (is_some (kind_of_first (map (λ k. k.now) names.now) column.now) &&
-        not (is_among column.now (map (λ t. t.now) seen.now))) (Column which column.now) ∷ []) result }
-    ensures value { IfOk result (λ k. k ≡ kind_of (map (λ k. k.now) names.now) column.now) }
+    ensures judged { Judged (column_check which (lent names.now) (lent seen.now) column.now ∷ []) result }
+    ensures value { IfOk result (λ k. k ≡ kind_of (lent names.now) column.now) }
 {
     match kind_under(names, column) {
         Some(kind) => {
@@ -232,9 +218,8 @@ fn places_of(
     names: &[&Name],
     columns: &[&str],
 ) -> Result<Vec<usize>, SimFault>
-    ensures judged { Judged (missing_checks which (map (λ k. k.now) names.now) (map (λ t. t.now) columns.now)) result }
-    ensures value { IfOk result (λ ns.
-        ns.items ≡ places_under (map (λ k. k.now) names.now) (map (λ t. t.now) columns.now)) }
+    ensures judged { Judged (missing_checks which (lent names.now) (lent columns.now)) result }
+    ensures value { IfOk result (λ ns. ns.items ≡ places_under (lent names.now) (lent columns.now)) }
 {
     let mut places = Vec::new(alloc);
     for name in names {
@@ -248,9 +233,8 @@ fn places_of(
 
 // The place of the column with the text, where there is one.
 fn place_of(alloc: Global, which: Which, text: &str, columns: &[&str]) -> Result<usize, SimFault>
-    ensures judged { Judged
-        (check (is_among text.now (map (λ t. t.now) columns.now)) (Column which text.now) ∷ []) result }
-    ensures value { IfOk result (λ n. n ≡ column_place (map (λ t. t.now) columns.now) text.now) }
+    ensures judged { Judged (check (is_among text.now (lent columns.now)) (Column which text.now) ∷ []) result }
+    ensures value { IfOk result (λ n. n ≡ column_place (lent columns.now) text.now) }
 {
     for (place, column) in columns.iter().enumerate() {
         if text == *column {

@@ -8,9 +8,8 @@ ghost use Rattle.hys_prog.specs.Guarded.{guarded};
 ghost use Rattle.hys_prog.specs.Programs.{IsProgram};
 ghost use Rattle.hys_prog.specs.Orders.{IsOrder};
 ghost use Rattle.hys_prog.specs.Steps.{is_input, is_state};
-ghost use Rattle.hys_sim.specs.Checks.{first_fault};
 ghost use Rattle.hys_sim.specs.Fields.{stripped};
-ghost use Rattle.hys_sim.specs.Tables.{names_of, table_checks, table_records, table_values};
+ghost use Rattle.hys_sim.specs.Tables.{role_values, table_fault};
 ghost use Rattle.hys_sim.specs.Uniqueness.{HasOneRun};
 ghost use Rattle.hys_sim.specs.Worked.{edge, inputs_table, start_table};
 ghost use Rattle.hys_sim.specs.Written.{run_text};
@@ -30,21 +29,19 @@ pub fn one_run()
 /// A worked table: what it stands for, and the text of its run.
 pub fn worked_table()
     ensures blanks { stripped (codes " \t4.5\t ") ≡ codes "4.5" }
-    ensures passes { first_fault (table_checks guarded start_table inputs_table) ≡ None }
-    ensures start { table_values (names_of is_state guarded) (table_records start_table) ≡ (whole 5 ∷ []) ∷ [] }
-    ensures inputs { table_values (names_of is_input guarded) (table_records inputs_table) ≡ [] ∷ [] ∷ [] }
+    ensures passes { table_fault guarded start_table inputs_table ≡ None }
+    ensures start { role_values is_state guarded start_table ≡ (whole 5 ∷ []) ∷ [] }
+    ensures inputs { role_values is_input guarded inputs_table ≡ [] ∷ [] ∷ [] }
     ensures text { run_text guarded (edge ∷ []) (whole 5 ∷ []) ≡ codes "step,x,d\n0,5,1\n1,5,\n" }
 {}
 
 /// Tables that are refused: the start before the inputs, a column before a record, and a record of
 /// another length before a column.
 pub fn worked_faults()
-    ensures column { first_fault (table_checks guarded (codes "step,y\n0,q\n") inputs_table) ≡
-        Some (Column Start (codes "y")) }
-    ensures missing { first_fault (table_checks guarded (codes "step\n0\n") inputs_table) ≡
-        Some (Column Start (codes "x")) }
-    ensures header { first_fault (table_checks guarded [] []) ≡ Some (Csv Start 0) }
-    ensures length { first_fault (table_checks guarded (codes "step,y\n0\n") inputs_table) ≡ Some (Csv Start 1) }
-    ensures rows { first_fault (table_checks guarded (codes "step,x\n") inputs_table) ≡ Some (Rows Start 1) }
-    ensures value { first_fault (table_checks guarded start_table (codes "step\n1\n")) ≡ Some (Value Inputs 1 1) }
+    ensures column { table_fault guarded (codes "step,y\n0,q\n") inputs_table ≡ Some (Column Start (codes "y")) }
+    ensures missing { table_fault guarded (codes "step\n0\n") inputs_table ≡ Some (Column Start (codes "x")) }
+    ensures header { table_fault guarded [] [] ≡ Some (Csv Start 0) }
+    ensures length { table_fault guarded (codes "step,y\n0\n") inputs_table ≡ Some (Csv Start 1) }
+    ensures rows { table_fault guarded (codes "step,x\n") inputs_table ≡ Some (Rows Start 1) }
+    ensures value { table_fault guarded start_table (codes "step\n1\n") ≡ Some (Value Inputs 1 1) }
 {}

@@ -1,8 +1,8 @@
-ghost use Rattle.std.specs.Prelude.{◌≡◌, [], get_or, true, Some, IfOk};
+ghost use Rattle.std.specs.Prelude.{◌≡◌, true, Some, IfOk};
 ghost use Rattle.csv.specs.Records.{fields_of};
-ghost use Rattle.hys_sim.specs.Fields.{stripped};
-ghost use Rattle.hys_sim.specs.Recorded.{IsNext, IsReading, records_left};
-ghost use Rattle.hys_sim.specs.Tables.{data_of, table_records};
+ghost use Rattle.hys_sim.specs.Recorded.{IsNext, IsReading};
+ghost use Rattle.hys_sim.specs.Tables.{table_records, table_data};
+ghost use Rattle.hys_sim.specs.Views.{field_in, left_in};
 
 use crate::fields::strip;
 use csv::{ByteRecord, Reader, ReaderBuilder};
@@ -11,7 +11,7 @@ use std::alloc::{AllocError, Global};
 /// A reader of the records of a table, of whatever lengths.
 pub fn reader_of(alloc: Global, text: &[u8]) -> Reader<&[u8]>
     ensures reading { IsReading (λ s. Some s.now) result }
-    ensures left { records_left (λ s. Some s.now) result ≡ table_records text.now }
+    ensures left { left_in result ≡ table_records text.now }
 {
     ReaderBuilder::new()
         .has_headers(false)
@@ -22,7 +22,7 @@ pub fn reader_of(alloc: Global, text: &[u8]) -> Reader<&[u8]>
 /// A reader of the records after the header.
 pub fn data_reader(alloc: Global, text: &[u8]) -> Result<Reader<&[u8]>, AllocError>
     ensures reading { IfOk result (λ r. IsReading (λ s. Some s.now) r) }
-    ensures left { IfOk result (λ r. records_left (λ s. Some s.now) r ≡ data_of (table_records text.now)) }
+    ensures left { IfOk result (λ r. left_in r ≡ table_data text.now) }
 {
     let mut reader = reader_of(alloc, text);
     let mut header = ByteRecord::new(alloc);
@@ -37,8 +37,7 @@ pub fn data_reader(alloc: Global, text: &[u8]) -> Result<Reader<&[u8]>, AllocErr
 pub fn next(reader: &mut Reader<&[u8]>, row: &mut ByteRecord) -> Result<bool, AllocError>
     requires { IsReading (λ s. Some s.now) reader.old }
     ensures reading { IfOk result (λ found. found ≡ true → IsReading (λ s. Some s.now) reader.new) }
-    ensures next { IfOk result (λ found. IsNext found (fields_of row.new)
-        (records_left (λ s. Some s.now) reader.old) (records_left (λ s. Some s.now) reader.new)) }
+    ensures next { IfOk result (λ found. IsNext found (fields_of row.new) (left_in reader.old) (left_in reader.new)) }
 {
     let found = match reader.read_byte_record(row) {
         Ok(found) => found,
@@ -49,7 +48,7 @@ pub fn next(reader: &mut Reader<&[u8]>, row: &mut ByteRecord) -> Result<bool, Al
 
 /// The field of the record at the place, without the blanks round it.
 pub fn field_at(row: &ByteRecord, place: usize) -> &[u8]
-    ensures { result.now ≡ stripped (get_or (fields_of row.now) place []) }
+    ensures { result.now ≡ field_in row.now place }
 {
     match row.get(place) {
         Some(field) => strip(field),

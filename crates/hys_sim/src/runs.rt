@@ -1,11 +1,11 @@
-ghost use Rattle.std.specs.Prelude.{◌≡◌, Option, length, map, IfOk};
+ghost use Rattle.std.specs.Prelude.{◌≡◌, Option, length, IfOk};
 ghost use Rattle.hys_prog.specs.Programs.{IsProgram};
 ghost use Rattle.hys_prog.specs.Orders.{IsOrder};
 ghost use Rattle.hys_prog.specs.Steps.{places as places_with, is_input, is_state};
 ghost use Rattle.hys_sim.specs.Simulations.{IsRunOf};
-ghost use Rattle.hys_sim.specs.Tables.{data_of, table_records, values_at as values_in};
 ghost use Rattle.hys_sim.specs.Written.{last_text};
 ghost use Rattle.std.specs.Prelude.{◌++◌};
+ghost use Rattle.hys_sim.specs.Tables.{data_at};
 
 use crate::fault::Simulated;
 use crate::header::number_after;
@@ -33,8 +33,7 @@ pub fn run(
     requires order { IsOrder program.now order.now }
     requires states { length start.items ≡ length (places_with is_state program.now) }
     requires inputs { length places.now ≡ length (places_with is_input program.now) }
-    ensures { IfOk result (λ r. IsRunOf program.now order.now start.items
-        (map (values_in places.now) (data_of (table_records text.now))) r) }
+    ensures { IfOk result (λ r. IsRunOf program.now order.now start.items (data_at places.now text.now) r) }
 {
     let mut reader = data_reader(alloc, text)?;
     let mut row = ByteRecord::new(alloc);

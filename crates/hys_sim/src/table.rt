@@ -1,7 +1,7 @@
-ghost use Rattle.std.specs.Prelude.{◌≡◌, ◌∷◌, [], length, map, IfOk};
+ghost use Rattle.std.specs.Prelude.{◌≡◌, ◌∷◌, [], length, IfOk};
 ghost use Rattle.hys_prog.specs.Steps.{is_input, is_state, places as places_with};
 ghost use Rattle.hys_sim.specs.Checks.{Judged};
-ghost use Rattle.hys_sim.specs.Tables.{columns_of, data_of, inputs_checks, inputs_counts, names_of as names_with, places_under, start_checks, start_counts, table_records, table_values, values_at as values_in};
+ghost use Rattle.hys_sim.specs.Tables.{inputs_checks, inputs_counts, start_checks, start_counts, data_at, role_places, role_values, table_data};
 
 use crate::fault::{SimFault, Which};
 use crate::header::head_of;
@@ -19,8 +19,7 @@ const MOST_VALUES: u128 = 1_000_000;
 #[tactic(auto, using(crate::proofs::Judging::fails_first, crate::proofs::Judging::fails_second, crate::proofs::Judging::fails_third, crate::proofs::Judging::none_after_none, crate::proofs::Judging::none_of_three, crate::proofs::Starting::one_start, crate::proofs::Starting::place_count))]
 pub fn start_state(alloc: Global, program: &Program, text: &[u8]) -> Result<Vec<Frac>, SimFault>
     ensures judged { Judged (start_checks program.now text.now) result }
-    ensures value { IfOk result (λ x.
-        table_values (names_with is_state program.now) (table_records text.now) ≡ x.items ∷ []) }
+    ensures value { IfOk result (λ x. role_values is_state program.now text.now ≡ x.items ∷ []) }
     ensures count { IfOk result (λ x. length x.items ≡ length (places_with is_state program.now)) }
 {
     let names = names_of(alloc, program, Role::State)?;
@@ -39,8 +38,7 @@ pub fn start_state(alloc: Global, program: &Program, text: &[u8]) -> Result<Vec<
 // The numbers at the places of the first record after the header.
 #[tactic(auto, using(crate::proofs::Starting::only_values, crate::proofs::Starting::value_count))]
 fn first_values(alloc: Global, places: &[usize], text: &[u8]) -> Result<Vec<Frac>, AllocError>
-    ensures value { IfOk result (λ x. length (data_of (table_records text.now)) ≡ 1 →
-        map (values_in places.now) (data_of (table_records text.now)) ≡ x.items ∷ []) }
+    ensures value { IfOk result (λ x. length (table_data text.now) ≡ 1 → data_at places.now text.now ≡ x.items ∷ []) }
     ensures count { IfOk result (λ x. length x.items ≡ length places.now) }
 {
     let mut reader = data_reader(alloc, text)?;
@@ -53,8 +51,7 @@ fn first_values(alloc: Global, places: &[usize], text: &[u8]) -> Result<Vec<Frac
 #[tactic(auto, using(crate::proofs::Judging::fails_first, crate::proofs::Judging::fails_second, crate::proofs::Judging::fails_third, crate::proofs::Judging::none_after_none, crate::proofs::Judging::none_of_three, crate::proofs::Starting::place_count))]
 pub fn input_places(alloc: Global, program: &Program, text: &[u8]) -> Result<Vec<usize>, SimFault>
     ensures judged { Judged (inputs_checks program.now text.now) result }
-    ensures places { IfOk result (λ ns.
-        ns.items ≡ places_under (names_with is_input program.now) (columns_of (table_records text.now))) }
+    ensures places { IfOk result (λ ns. ns.items ≡ role_places is_input program.now text.now) }
     ensures count { IfOk result (λ ns. length ns.items ≡ length (places_with is_input program.now)) }
 {
     let names = names_of(alloc, program, Role::Input)?;

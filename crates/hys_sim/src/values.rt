@@ -5,7 +5,7 @@ ghost use Rattle.hys_frac.specs.Read.{reading};
 ghost use Rattle.hys_prog.specs.Stops.{of_kind};
 ghost use Rattle.hys_sim.specs.Checks.{Judged};
 ghost use Rattle.hys_sim.specs.Fields.{number_or_zero, says as says_number, suits};
-ghost use Rattle.hys_sim.specs.Tables.{data_of, kind_checks, record_checks, records_checks, table_records, values_at as values_in};
+ghost use Rattle.hys_sim.specs.Tables.{kind_checks, record_checks, records_checks, values_at as values_in, table_data};
 ghost use Rattle.hys_sim.specs.declared.fault.SimFault.TheVariants.{Memory, Value};
 
 use crate::fault::{SimFault, Which};
@@ -24,7 +24,7 @@ pub fn judge_records(
     kinds: &[Kind],
     text: &[u8],
 ) -> Result<(), SimFault>
-    ensures { Judged (records_checks which kinds.now 0 (data_of (table_records text.now))) result }
+    ensures { Judged (records_checks which kinds.now 0 (table_data text.now)) result }
 {
     let mut reader = data_reader(alloc, text)?;
     let mut row = ByteRecord::new(alloc);

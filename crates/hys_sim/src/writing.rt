@@ -1,7 +1,8 @@
 ghost use Rattle.std.specs.Prelude.{◌≡◌, ◌++◌, [], map, replicate, OnOk, IfOk};
 ghost use Rattle.std.specs.Fmt.{decimal};
 ghost use Rattle.hys_prog.specs.Programs.{text_of};
-ghost use Rattle.hys_sim.specs.Written.{after_commas, header_text, last_text, numbers_text, transition_text};
+ghost use Rattle.hys_sim.specs.Written.{after_commas, header_text, last_text, numbers_text, step_text};
+ghost use Rattle.hys_sim.specs.Views.{lent};
 
 use crate::names::names_of;
 use hys_frac::Frac;
@@ -31,8 +32,7 @@ pub fn write_transition(
     input: &[Frac],
     stepped: &Stepped,
 ) -> Result<(), AllocError>
-    ensures { OnOk result (out.new.items ≡ out.old.items ++ transition_text number
-        (record { state = state.now; input = input.now; stepped = stepped.now })) }
+    ensures { OnOk result (out.new.items ≡ out.old.items ++ step_text number state.now input.now stepped.now) }
 {
     write_number(alloc, out, number)?;
     write_values(alloc, out, state)?;
@@ -83,7 +83,7 @@ fn write_values(alloc: Global, out: &mut Vec<u8>, values: &[Frac]) -> Result<(),
 
 // Writes the texts of the names, each after a comma.
 fn write_names(out: &mut Vec<u8>, names: &[&Name]) -> Result<(), AllocError>
-    ensures { OnOk result (out.new.items ≡ out.old.items ++ after_commas (map text_of (map (λ k. k.now) names.now))) }
+    ensures { OnOk result (out.new.items ≡ out.old.items ++ after_commas (map text_of (lent names.now))) }
 {
     for name in names {
         out.push(b',')?;
