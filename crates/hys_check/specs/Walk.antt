@@ -3,9 +3,11 @@ use Rattle.std.specs.Prelude.{List, [], ◌∷◌, ◌++◌, Bool, true, false, 
 use Rattle.hys_number.specs.Number.{Number}
 use Rattle.hys_relax.specs.Laws.{child}
 use Rattle.hys_relax.specs.declared.fixing.Fixing.{Fixing}
+use Rattle.hys_lagrange.specs.Fixed.{AreWithin}
 use Rattle.hys_tree.specs.Shows.{Goal, at_least, none}
 use Rattle.hys_tree.specs.declared.tree.TreePlace.{TreePlace}
 use Rattle.hys_tree.specs.declared.tree.TreePlace.TheVariants.{Inner, Cost, Never}
+use Rattle.hys_check.specs.TreeTests.{paths_below}
 
 -- the goal with this least cost, or that there is no solution
 abbrev pub goal_by : Option Number → Goal
@@ -31,3 +33,11 @@ abbrev pub IsColumnWithin : ℕ → TreePlace → Type 0
 IsColumnWithin n (Inner c) = c < n
 IsColumnWithin n (Cost m k) = Unit {0}
 IsColumnWithin n (Never m k) = Unit {0}
+
+-- the paths that are still to come behind a place with this path
+abbrev pub paths_after : List Fixing → TreePlace → List (List Fixing)
+paths_after path place = paths_below path place ++ pending path
+
+-- where the columns of the old path and of the place are among the first n, those of the new path are too
+abbrev pub StaysWithin : TreePlace → List Fixing → List Fixing → Type 0
+StaysWithin place old new = (n : ℕ) → AreWithin n old → IsColumnWithin n place → AreWithin n new

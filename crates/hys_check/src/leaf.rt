@@ -5,7 +5,8 @@ ghost use Rattle.hys_lagrange.specs.Fixed.{AreWithin};
 ghost use Rattle.hys_tree.specs.Shows.{at_least};
 ghost use Rattle.hys_number.specs.Ops.{whole};
 ghost use Rattle.hys_check.specs.Testing.{first_failing, is_at_most};
-ghost use Rattle.hys_check.specs.TreeTests.{are_rows, are_signed as are_signed_by, cost_tests, never_tests};
+ghost use Rattle.hys_check.specs.TreeTests.{are_rows, are_signed as are_signed_by, never_tests};
+ghost use Rattle.hys_check.specs.Verdict.{cost_verdict};
 ghost use Rattle.hys_check.specs.Walk.{goal_by};
 
 use crate::sum::bound_at;
@@ -31,8 +32,8 @@ pub fn judge_cost(
     requires problem { IsProblem problem.now }
     requires path { AreWithin (length problem.now.boxes) path.now }
     requires multipliers { AreMultipliers multipliers.now.pairs }
-    ensures { IfOk result (λ v. v ≡ first_failing
-        (cost_tests problem.now (goal_by least.now) number path.now multipliers.now depth)) }
+    ensures { IfOk result (λ v.
+        v ≡ cost_verdict problem.now (goal_by least.now) number path.now multipliers.now depth) }
 {
     match least {
         None => Ok(misshapen(number)),
@@ -56,8 +57,8 @@ fn judge_bound(
     requires problem { IsProblem problem.now }
     requires path { AreWithin (length problem.now.boxes) path.now }
     requires multipliers { AreMultipliers multipliers.now.pairs }
-    ensures { IfOk result (λ v. v ≡ first_failing
-        (cost_tests problem.now (at_least claimed) number path.now multipliers.now depth)) }
+    ensures { IfOk result (λ v.
+        v ≡ cost_verdict problem.now (at_least claimed) number path.now multipliers.now depth) }
 {
     let pairs = multipliers.pairs.items();
     if !has_shape(problem, path, pairs, depth) {

@@ -1,11 +1,11 @@
-ghost use Rattle.std.specs.Prelude.{◌≡◌, ◌+◌, ◌^◌, ◌<◌, ◌++◌, ℕ, [], ◌∷◌, length, IfOk};
+ghost use Rattle.std.specs.Prelude.{◌≡◌, ◌+◌, ◌^◌, ◌<◌, ℕ, [], ◌∷◌, length, IfOk};
 ghost use Rattle.hys_lin.specs.Problem.{IsProblem};
 ghost use Rattle.hys_relax.specs.Node.{is_branch as is_branch_of, is_fixed as is_fixed_by};
 ghost use Rattle.hys_lagrange.specs.Fixed.{AreWithin};
 ghost use Rattle.hys_check.specs.Testing.{first_failing};
-ghost use Rattle.hys_check.specs.TreeTests.{is_open as is_open_by, place_tests, paths_below, tree_tests};
+ghost use Rattle.hys_check.specs.TreeTests.{is_open as is_open_by, place_tests, tree_tests};
 ghost use Rattle.hys_tree.specs.Multiplied.{AreMultiplied, IsMultiplied};
-ghost use Rattle.hys_check.specs.Walk.{goal_by, pending, paths_with, IsColumnWithin};
+ghost use Rattle.hys_check.specs.Walk.{goal_by, pending, paths_with, paths_after, StaysWithin};
 ghost use Rattle.hys_check.specs.declared.verdict.At.TheVariants.{Node};
 ghost use Rattle.hys_check.specs.declared.verdict.CheckWhy.TheVariants.{Shape};
 ghost use Rattle.hys_check.specs.declared.verdict.Verdict.TheVariants.{No};
@@ -123,10 +123,8 @@ fn is_fixed(path: &[Fixing], column: u32) -> bool
 
 // Makes the path that of the place that follows; false where no place has to follow.
 fn follow(path: &mut Vec<Fixing>, place: &TreePlace) -> Result<bool, AllocError>
-    ensures paths { IfOk result (λ more.
-        paths_with more path.new.items ≡ paths_below path.old.items place.now ++ pending path.old.items) }
-    ensures within { IfOk result (λ _. (n : ℕ) → AreWithin n path.old.items → IsColumnWithin n place.now →
-        AreWithin n path.new.items) }
+    ensures paths { IfOk result (λ more. paths_with more path.new.items ≡ paths_after path.old.items place.now) }
+    ensures within { IfOk result (λ _. StaysWithin place.now path.old.items path.new.items) }
 {
     match place {
         TreePlace::Inner(column) => {

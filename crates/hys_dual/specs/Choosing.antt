@@ -5,13 +5,15 @@ use Rattle.hys_number.specs.Ops.{fits}
 use Rattle.hys_lin.specs.Operations.{first_lost}
 use Rattle.hys_lin.specs.declared.lost.Lost.{Lost}
 use Rattle.hys_lin.specs.declared.problem.Problem.{Problem}
-use Rattle.hys_relax.specs.Node.{Boxes}
+use Rattle.hys_relax.specs.Node.{Boxes, node_boxes}
 use Rattle.hys_relax.specs.LinearProgram.{LinearProgram, linear_program}
 use Rattle.hys_relax.specs.Bound.{costless}
 use Rattle.hys_relax.specs.BoundSum.{bound_operations}
+use Rattle.hys_relax.specs.declared.fixing.Fixing.{Fixing}
 use Rattle.hys_simplex.specs.Tableau.{Tableau}
 use Rattle.hys_simplex.specs.Status.{status_point, AllInside}
 use Rattle.hys_simplex.specs.Rule.{IsRuled, IsBlocked}
+use Rattle.hys_simplex.specs.Path.{tableau_after}
 use Rattle.hys_simplex.specs.Unfit.{SomeUnfit, value_operations, cost_pairs, row_pairs, UnfitAt}
 use Rattle.hys_tab.specs.Table.{multipliers_of}
 use Rattle.hys_dual.specs.Relaxing.{PointFits}
@@ -60,6 +62,10 @@ abbrev pub IsFinish : Problem → Boxes → Tableau → Finish → Type 0
 IsFinish p B T (Least v m) = IsLeastHere p B T v.values m.pairs
 IsFinish p B T (Never m) = IsNeverHere p B T m.pairs
 IsFinish p B T (Stuck place) = UnfitAt fits p B T place
+
+-- the end is true of a node's boxes and of the tableau after a path
+abbrev pub IsFinishAfter : Problem → List Fixing → List (ℕ × ℕ) → Finish → Type 0
+IsFinishAfter p fixings path f = IsFinish p (node_boxes p fixings) (tableau_after p path) f
 
 -- the pivot is the rule's, or the end is true of the tableau
 abbrev pub IsChoice : Problem → Boxes → Tableau → Choice → Type 0

@@ -1,11 +1,18 @@
 -- The column that enters the basis, as the code finds it.
-use Rattle.std.specs.Prelude.{ℕ, suc, ◌<◌, Option, Some, None}
+use Rattle.std.specs.Prelude.{◌≡◌, ℕ, suc, ◌<◌, Option, Some, None}
+use Rattle.std.specs.Ordering.{MatchOrdering}
+use Rattle.std.specs.declared.cmp.Ordering.{Ordering}
 use Rattle.hys_number.specs.Number.{Number}
+use Rattle.hys_number.specs.Ops.{◌<ₙ◌}
 use Rattle.hys_relax.specs.Node.{Boxes}
 use Rattle.hys_relax.specs.LinearProgram.{LinearProgram}
 use Rattle.hys_simplex.specs.Tableau.{Tableau}
 use Rattle.hys_simplex.specs.Status.{Rises}
 use Rattle.hys_simplex.specs.Rule.{MayEnter, ratio, IsEntering}
+
+-- the order of the first number to the second
+abbrev pub IsOrderOf : Number → Number → Ordering → Type 0
+IsOrderOf a b order = MatchOrdering order (a <ₙ b) (a ≡ b) (b <ₙ a)
 
 -- the raised ratio of column j is below that of column c
 abbrev pub IsLess : LinearProgram → Tableau → ℕ → Number → ℕ → ℕ → Type 0

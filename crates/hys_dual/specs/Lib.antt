@@ -9,3 +9,5 @@ pub mod Choosing
 pub mod Laws
 pub mod Cases
 pub mod Bounding
+pub mod Summing
+pub mod Tables

@@ -1,15 +1,12 @@
 ghost use Rattle.std.specs.Prelude.{◌≡◌, ◌<◌, length, IfOk};
 ghost use Rattle.std.specs.Result.{result_err};
-ghost use Rattle.hys_lin.specs.Operations.{first_lost};
-ghost use Rattle.hys_lin.specs.Ranges.{box_at};
 ghost use Rattle.hys_lin.specs.Scaled.{AnswersLost};
 ghost use Rattle.hys_relax.specs.LinearProgram.{factor_at, row_at};
 ghost use Rattle.hys_relax.specs.Bound.{AreLawful, lesser_end as lesser_end_of};
-ghost use Rattle.hys_relax.specs.BoundSum.{joined_to, bound_operations, coefficient_operations, constant_operations};
-ghost use Rattle.hys_relax.specs.BoundSum.{end_operations, summed_coefficient, summed_constant, summed_ends};
+ghost use Rattle.hys_relax.specs.BoundSum.{summed_coefficient, summed_constant};
 ghost use Rattle.hys_dual.specs.Costs.{with_cost};
-ghost use Rattle.hys_dual.specs.Listed.{listed};
-ghost use Rattle.hys_tab.specs.Cells.{number_at};
+ghost use Rattle.hys_dual.specs.Summing.{summed_bound, sum_operations, summed_coefficients, column_operations};
+ghost use Rattle.hys_dual.specs.Summing.{coefficient_lost, constant_lost, summed_over, lost_over};
 
 use crate::products::{factor, less_product, plus_product};
 use hys_frac::Frac;
@@ -28,12 +25,8 @@ pub fn bound_sum(
 ) -> Result<Frac, LinFault>
     requires boxes { length boxes.now ≡ length problem.now.boxes }
     requires lawful { AreLawful problem.now pairs.now }
-    ensures value { let p = with_cost problem.now cost.now constant in
-        let d = summed_coefficient p pairs.now in
-        let start = summed_constant p pairs.now in
-        IfOk result (λ z. z ≡ summed_ends start d (box_at boxes.now) (length problem.now.boxes)) }
-    ensures lost { let p = with_cost problem.now cost.now constant in
-        AnswersLost result (bound_operations p (box_at boxes.now) pairs.now) }
+    ensures value { IfOk result (λ z. z ≡ summed_bound (with_cost problem.now cost.now constant) boxes.now pairs.now) }
+    ensures lost { AnswersLost result (sum_operations (with_cost problem.now cost.now constant) boxes.now pairs.now) }
 {
     let coefficients = coefficients(alloc, problem, cost, constant, pairs)?;
     let start = constant_sum(problem, cost, constant, pairs)?;
@@ -50,10 +43,9 @@ fn coefficients(
     pairs: &[(u32, Frac)],
 ) -> Result<Vec<Frac>, LinFault>
     requires lawful { AreLawful problem.now pairs.now }
-    ensures value { let p = with_cost problem.now cost.now constant in
-        IfOk result (λ ds. ds.items ≡ listed (length problem.now.boxes) (summed_coefficient p pairs.now)) }
-    ensures lost { let p = with_cost problem.now cost.now constant in
-        AnswersLost result (joined_to (length problem.now.boxes) (coefficient_operations p pairs.now)) }
+    ensures value { IfOk result (λ ds.
+        ds.items ≡ summed_coefficients (with_cost problem.now cost.now constant) pairs.now) }
+    ensures lost { AnswersLost result (column_operations (with_cost problem.now cost.now constant) pairs.now) }
 {
     let mut list = Vec::new(alloc);
     for column in 0..problem.boxes.items().len() {
@@ -72,10 +64,9 @@ fn coefficient(
     column: usize,
 ) -> Result<Frac, Lost>
     requires lawful { AreLawful problem.now pairs.now }
-    ensures value { let p = with_cost problem.now cost.now constant in
-        IfOk result (λ r. r ≡ summed_coefficient p pairs.now column) }
-    ensures lost { let p = with_cost problem.now cost.now constant in
-        result_err result ≡ first_lost (coefficient_operations p pairs.now column) }
+    ensures value { IfOk result (λ r.
+        r ≡ summed_coefficient (with_cost problem.now cost.now constant) pairs.now column) }
+    ensures lost { result_err result ≡ coefficient_lost (with_cost problem.now cost.now constant) pairs.now column }
 {
     let mut sum = factor(cost, column);
     for k in 0..pairs.len() {
@@ -112,8 +103,7 @@ fn constant_sum(
 ) -> Result<Frac, Lost>
     requires lawful { AreLawful problem.now pairs.now }
     ensures value { IfOk result (λ r. r ≡ summed_constant (with_cost problem.now cost.now constant) pairs.now) }
-    ensures lost { let p = with_cost problem.now cost.now constant in
-        result_err result ≡ first_lost (constant_operations p pairs.now) }
+    ensures lost { result_err result ≡ constant_lost (with_cost problem.now cost.now constant) pairs.now }
 {
     let mut sum = constant;
     for k in 0..pairs.len() {
@@ -126,10 +116,8 @@ fn constant_sum(
 // From the start each coefficient times the end of its box that makes the product less.
 fn ends_sum(start: Frac, coefficients: &[Frac], boxes: &[Interval]) -> Result<Frac, Lost>
     requires { length boxes.now ≡ length coefficients.now }
-    ensures value { let d = number_at coefficients.now in
-        IfOk result (λ r. r ≡ summed_ends start d (box_at boxes.now) (length boxes.now)) }
-    ensures lost { let os = end_operations start (number_at coefficients.now) (box_at boxes.now) (length boxes.now) in
-        result_err result ≡ first_lost os }
+    ensures value { IfOk result (λ r. r ≡ summed_over start coefficients.now boxes.now) }
+    ensures lost { result_err result ≡ lost_over start coefficients.now boxes.now }
 {
     let mut sum = start;
     for column in 0..boxes.len() {

@@ -3,15 +3,14 @@ ghost use Rattle.hys_lin.specs.Problem.{IsProblem};
 ghost use Rattle.hys_lin.specs.Ranges.{box_at};
 ghost use Rattle.hys_relax.specs.LinearProgram.{linear_program};
 ghost use Rattle.hys_relax.specs.Bound.{AreLawful};
-ghost use Rattle.hys_relax.specs.BoundSum.{bound_operations};
 ghost use Rattle.hys_simplex.specs.Laws.{AreOrdered, IsReached};
-ghost use Rattle.hys_simplex.specs.Rule.{IsLeaving, IsBlocked};
 ghost use Rattle.hys_simplex.specs.Status.{AllInside};
 ghost use Rattle.hys_tab.specs.Table.{tableau_of};
 ghost use Rattle.hys_dual.specs.Choosing.{AreFitting, IsFinish, IsChoice};
 ghost use Rattle.hys_dual.specs.Costs.{with_cost};
-ghost use Rattle.hys_dual.specs.Ranging.{side_of};
-ghost use Rattle.hys_dual.specs.Standing.{AllStand, ends_of};
+ghost use Rattle.hys_dual.specs.Standing.{AllStand};
+ghost use Rattle.hys_dual.specs.Summing.{sum_operations};
+ghost use Rattle.hys_dual.specs.Tables.{ends_in, IsLeavingIn, IsBlockedIn};
 
 use crate::bound::bound_sum;
 use crate::end::End;
@@ -85,9 +84,8 @@ fn left(
     requires reached { IsReached (linear_program problem.now) (tableau_of tableau.now) }
     requires stands { AllStand (tableau_of tableau.now) stands.now }
     requires long { length stands.now ≡ length tableau.now.outsides + length tableau.now.basics }
-    requires ends { ends.now ≡ ends_of (linear_program problem.now) (box_at boxes.now) (tableau_of tableau.now) }
-    requires leaving { let P = linear_program problem.now in
-        IsLeaving P (box_at boxes.now) (tableau_of tableau.now) off.row (side_of off.under) off.near }
+    requires ends { ends.now ≡ ends_in problem.now boxes.now tableau.now }
+    requires leaving { IsLeavingIn problem.now boxes.now tableau.now off }
     ensures { IfOk result (λ q. IsChoice problem.now (box_at boxes.now) (tableau_of tableau.now) q) }
 {
     match entering(problem, boxes, tableau, stands, ends, off.row, off.under) {
@@ -113,7 +111,7 @@ fn least(
     requires reached { IsReached (linear_program problem.now) (tableau_of tableau.now) }
     requires stands { AllStand (tableau_of tableau.now) stands.now }
     requires long { length stands.now ≡ length tableau.now.outsides + length tableau.now.basics }
-    requires ends { ends.now ≡ ends_of (linear_program problem.now) (box_at boxes.now) (tableau_of tableau.now) }
+    requires ends { ends.now ≡ ends_in problem.now boxes.now tableau.now }
     requires inside { AllInside (linear_program problem.now) (box_at boxes.now) (tableau_of tableau.now) }
     ensures { IfOk result (λ f. IsFinish problem.now (box_at boxes.now) (tableau_of tableau.now) f) }
 {
@@ -153,8 +151,7 @@ fn never(
     requires reached { IsReached (linear_program problem.now) (tableau_of tableau.now) }
     requires stands { AllStand (tableau_of tableau.now) stands.now }
     requires long { length stands.now ≡ length tableau.now.outsides + length tableau.now.basics }
-    requires blocked { let P = linear_program problem.now in
-        IsBlocked P (box_at boxes.now) (tableau_of tableau.now) off.row (side_of off.under) off.near }
+    requires blocked { IsBlockedIn problem.now boxes.now tableau.now off }
     ensures { IfOk result (λ f. IsFinish problem.now (box_at boxes.now) (tableau_of tableau.now) f) }
 {
     let multipliers = row_multipliers(alloc, problem, tableau, stands, off.row, off.under)?;
@@ -182,8 +179,7 @@ fn sum_fits(
 ) -> Result<bool, AllocError>
     requires boxes { length boxes.now ≡ length problem.now.boxes }
     requires lawful { AreLawful problem.now pairs.now }
-    ensures { let p = with_cost problem.now cost.now constant in
-        IfOk result (λ t. AreFitting (bound_operations p (box_at boxes.now) pairs.now) t) }
+    ensures { IfOk result (AreFitting (sum_operations (with_cost problem.now cost.now constant) boxes.now pairs.now)) }
 {
     match bound_sum(alloc, problem, cost, constant, boxes, pairs) {
         Ok(_) => Ok(true),

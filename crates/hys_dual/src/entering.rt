@@ -1,14 +1,13 @@
 ghost use Rattle.std.specs.Prelude.{◌≡◌, ◌≢◌, ◌+◌, ◌<◌, ◌≤◌, ◌↔◌, length, IsTrue};
-ghost use Rattle.std.specs.Ordering.{MatchOrdering};
 ghost use Rattle.hys_number.specs.Ops.{◌<ₙ◌, ◌*ₙ◌, whole};
 ghost use Rattle.hys_lin.specs.Ranges.{box_at};
 ghost use Rattle.hys_relax.specs.LinearProgram.{linear_program};
 ghost use Rattle.hys_simplex.specs.Tableau.{IsOf};
-ghost use Rattle.hys_simplex.specs.Rule.{IsMovable, MayEnter, ratio};
+ghost use Rattle.hys_simplex.specs.Rule.{IsMovable};
 ghost use Rattle.hys_tab.specs.Table.{tableau_of};
-ghost use Rattle.hys_dual.specs.Standing.{AllStand, ends_of};
+ghost use Rattle.hys_dual.specs.Standing.{AllStand};
 ghost use Rattle.hys_dual.specs.Ranging.{side_of};
-ghost use Rattle.hys_dual.specs.Enter.{IsLess, IsBestBelow, IsPicked};
+ghost use Rattle.hys_dual.specs.Tables.{ends_in, MayEnterIn, IsLessIn, IsRatioOrderIn, IsBestIn, IsPickedIn};
 
 use crate::end::End;
 use crate::raised::raised_cell;
@@ -34,10 +33,9 @@ pub fn entering(
     requires boxes { length boxes.now ≡ length problem.now.boxes }
     requires stands { AllStand (tableau_of tableau.now) stands.now }
     requires long { length stands.now ≡ length tableau.now.outsides + length tableau.now.basics }
-    requires ends { ends.now ≡ ends_of (linear_program problem.now) (box_at boxes.now) (tableau_of tableau.now) }
+    requires ends { ends.now ≡ ends_in problem.now boxes.now tableau.now }
     requires row { row < length tableau.now.basics }
-    ensures { let P = linear_program problem.now in
-        IsPicked P (box_at boxes.now) (tableau_of tableau.now) row (side_of under) result }
+    ensures { IsPickedIn problem.now boxes.now tableau.now row under result }
 {
     let mut best = None;
     for column in 0..tableau.columns() {
@@ -72,13 +70,11 @@ fn better(
     requires boxes { length boxes.now ≡ length problem.now.boxes }
     requires stands { AllStand (tableau_of tableau.now) stands.now }
     requires long { length stands.now ≡ length tableau.now.outsides + length tableau.now.basics }
-    requires ends { ends.now ≡ ends_of (linear_program problem.now) (box_at boxes.now) (tableau_of tableau.now) }
+    requires ends { ends.now ≡ ends_in problem.now boxes.now tableau.now }
     requires row { row < length tableau.now.basics }
     requires column { column < length tableau.now.outsides }
-    requires best { let P = linear_program problem.now in
-        IsBestBelow P (box_at boxes.now) (tableau_of tableau.now) row (side_of under) column best }
-    ensures { let P = linear_program problem.now in
-        IsBestBelow P (box_at boxes.now) (tableau_of tableau.now) row (side_of under) (column + 1) result }
+    requires best { IsBestIn problem.now boxes.now tableau.now row under column best }
+    ensures { IsBestIn problem.now boxes.now tableau.now row under (column + 1) result }
 {
     if !may_enter(problem, boxes, tableau, ends, row, under, column) {
         return best;
@@ -107,11 +103,10 @@ fn may_enter(
 ) -> bool
     requires of { IsOf (linear_program problem.now) (tableau_of tableau.now) }
     requires boxes { length boxes.now ≡ length problem.now.boxes }
-    requires ends { ends.now ≡ ends_of (linear_program problem.now) (box_at boxes.now) (tableau_of tableau.now) }
+    requires ends { ends.now ≡ ends_in problem.now boxes.now tableau.now }
     requires row { row < length tableau.now.basics }
     requires column { column < length tableau.now.outsides }
-    ensures { let P = linear_program problem.now in
-        IsTrue result ↔ MayEnter P (box_at boxes.now) (tableau_of tableau.now) row (side_of under) column }
+    ensures { IsTrue result ↔ MayEnterIn problem.now boxes.now tableau.now row under column }
 {
     let cell = tableau.cell(row, column);
     is_toward(under, ends[column as usize].above, cell)
@@ -158,8 +153,7 @@ fn is_less(
     requires second { second < length tableau.now.outsides }
     requires first_cell { (tableau_of tableau.now).cell row first ≢ whole 0 }
     requires second_cell { (tableau_of tableau.now).cell row second ≢ whole 0 }
-    ensures { let P = linear_program problem.now in
-        IsTrue result ↔ IsLess P (tableau_of tableau.now) row (side_of under) first second }
+    ensures { IsTrue result ↔ IsLessIn problem.now tableau.now row under first second }
 {
     for place in 0..tableau.columns() + 1 {
         match cmp_at(problem, tableau, stands, row, under, first, second, place) {
@@ -191,10 +185,7 @@ fn cmp_at(
     requires place { place ≤ length tableau.now.outsides }
     requires first_cell { (tableau_of tableau.now).cell row first ≢ whole 0 }
     requires second_cell { (tableau_of tableau.now).cell row second ≢ whole 0 }
-    ensures { let f = ratio (linear_program problem.now) (tableau_of tableau.now) row (side_of under) in
-        let a = f first place in
-        let b = f second place in
-        MatchOrdering result (a <ₙ b) (a ≡ b) (b <ₙ a) }
+    ensures { IsRatioOrderIn problem.now tableau.now row under first second place result }
 {
     let over_first = raised_cell(problem, tableau, stands, first, place);
     let over_second = raised_cell(problem, tableau, stands, second, place);

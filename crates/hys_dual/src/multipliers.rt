@@ -1,12 +1,13 @@
 ghost use Rattle.std.specs.Prelude.{◌≡◌, ◌+◌, ◌++◌, ◌<◌, length, IfOk, if◌then◌else◌};
 ghost use Rattle.hys_number.specs.Ops.{◌*ₙ◌, whole};
 ghost use Rattle.hys_relax.specs.LinearProgram.{linear_program};
-ghost use Rattle.hys_simplex.specs.Tableau.{IsOf, row_multiplier as row_multiplier_of};
+ghost use Rattle.hys_simplex.specs.Tableau.{IsOf};
 ghost use Rattle.hys_simplex.specs.Unfit.{row_pairs};
 ghost use Rattle.hys_tab.specs.Cells.{some_pair};
 ghost use Rattle.hys_tab.specs.Table.{tableau_of};
 ghost use Rattle.hys_dual.specs.Ranging.{side_of};
 ghost use Rattle.hys_dual.specs.Standing.{AllStand};
+ghost use Rattle.hys_dual.specs.Tables.{row_multiplier_in};
 
 use crate::stand::Stand;
 use hys_frac::{Frac, List};
@@ -55,8 +56,7 @@ fn row_multiplier(
     requires long { length stands.now ≡ length tableau.now.outsides + length tableau.now.basics }
     requires row { row < length tableau.now.basics }
     requires slack { slack < length tableau.now.basics }
-    ensures { let P = linear_program problem.now in
-        result ≡ row_multiplier_of P (tableau_of tableau.now) row (side_of under) slack }
+    ensures { result ≡ row_multiplier_in problem.now tableau.now row under slack }
 {
     match stands[tableau.columns() + slack as usize] {
         Stand::Basic(other) => sided(under, indicator(other == row)),

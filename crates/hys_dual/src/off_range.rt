@@ -3,11 +3,10 @@ ghost use Rattle.hys_number.specs.Ops.{fits};
 ghost use Rattle.hys_lin.specs.Ranges.{box_at};
 ghost use Rattle.hys_relax.specs.LinearProgram.{linear_program};
 ghost use Rattle.hys_simplex.specs.Tableau.{IsOf};
-ghost use Rattle.hys_simplex.specs.Status.{basic_value as basic_value_of};
-ghost use Rattle.hys_simplex.specs.Unfit.{SomeUnfit, value_operations};
+ghost use Rattle.hys_simplex.specs.Unfit.{SomeUnfit};
 ghost use Rattle.hys_tab.specs.Table.{tableau_of};
-ghost use Rattle.hys_dual.specs.Standing.{ends_of};
 ghost use Rattle.hys_dual.specs.Leave.{IsRowState, IsLeft};
+ghost use Rattle.hys_dual.specs.Tables.{ends_in, basic_value_in, value_operations_in};
 
 use crate::end::End;
 use crate::products::less_product;
@@ -38,7 +37,7 @@ pub enum Leaving {
 pub fn first_off(problem: &Problem, boxes: &[Interval], tableau: &Tableau, ends: &[End]) -> Leaving
     requires of { IsOf (linear_program problem.now) (tableau_of tableau.now) }
     requires boxes { length boxes.now ≡ length problem.now.boxes }
-    requires ends { ends.now ≡ ends_of (linear_program problem.now) (box_at boxes.now) (tableau_of tableau.now) }
+    requires ends { ends.now ≡ ends_in problem.now boxes.now tableau.now }
     ensures { IsLeft (linear_program problem.now) (box_at boxes.now) (tableau_of tableau.now) result }
 {
     for row in 0..tableau.rows() {
@@ -61,7 +60,7 @@ fn row_state(
 ) -> Leaving
     requires of { IsOf (linear_program problem.now) (tableau_of tableau.now) }
     requires boxes { length boxes.now ≡ length problem.now.boxes }
-    requires ends { ends.now ≡ ends_of (linear_program problem.now) (box_at boxes.now) (tableau_of tableau.now) }
+    requires ends { ends.now ≡ ends_in problem.now boxes.now tableau.now }
     requires row { row < length tableau.now.basics }
     ensures { IsRowState (linear_program problem.now) (box_at boxes.now) (tableau_of tableau.now) row result }
 {
@@ -84,11 +83,9 @@ pub fn basic_value(
     row: u32,
 ) -> Option<Frac>
     requires row { row < length tableau.now.basics }
-    requires ends { ends.now ≡ ends_of (linear_program problem.now) (box_at boxes.now) (tableau_of tableau.now) }
-    ensures value { let P = linear_program problem.now in
-        IfSome result (λ x. x ≡ basic_value_of P (box_at boxes.now) (tableau_of tableau.now) row) }
-    ensures unfit { let P = linear_program problem.now in
-        IsNone result → SomeUnfit fits (value_operations P (box_at boxes.now) (tableau_of tableau.now) row) }
+    requires ends { ends.now ≡ ends_in problem.now boxes.now tableau.now }
+    ensures value { IfSome result (λ x. x ≡ basic_value_in problem.now boxes.now tableau.now row) }
+    ensures unfit { IsNone result → SomeUnfit fits (value_operations_in problem.now boxes.now tableau.now row) }
 {
     let mut sum = tableau.cell(row, tableau.columns() as u32);
     for column in 0..tableau.columns() {

@@ -5,12 +5,12 @@ ghost use Rattle.hys_lin.specs.Ranges.{box_at};
 ghost use Rattle.hys_lin.specs.Sums.{at};
 ghost use Rattle.hys_relax.specs.LinearProgram.{linear_program};
 ghost use Rattle.hys_simplex.specs.Tableau.{IsOf};
-ghost use Rattle.hys_simplex.specs.Status.{status_value as status_value_of};
 ghost use Rattle.hys_simplex.specs.Unfit.{SomeUnfit, point_operations};
 ghost use Rattle.hys_tab.specs.Table.{tableau_of};
-ghost use Rattle.hys_dual.specs.Choosing.{IsRowUnfit, IsPointed};
+ghost use Rattle.hys_dual.specs.Choosing.{IsPointed};
 ghost use Rattle.hys_dual.specs.Relaxing.{PointFits};
-ghost use Rattle.hys_dual.specs.Standing.{AllStand, ends_of};
+ghost use Rattle.hys_dual.specs.Standing.{AllStand};
+ghost use Rattle.hys_dual.specs.Tables.{ends_in, status_value_in, IsRowUnfitIn};
 
 use crate::end::End;
 use crate::finish::Pointed;
@@ -34,7 +34,7 @@ pub fn point(
     requires boxes { length boxes.now ≡ length problem.now.boxes }
     requires stands { AllStand (tableau_of tableau.now) stands.now }
     requires long { length stands.now ≡ length tableau.now.outsides + length tableau.now.basics }
-    requires ends { ends.now ≡ ends_of (linear_program problem.now) (box_at boxes.now) (tableau_of tableau.now) }
+    requires ends { ends.now ≡ ends_in problem.now boxes.now tableau.now }
     ensures { IfOk result (λ q. IsPointed (linear_program problem.now) (box_at boxes.now) (tableau_of tableau.now) q) }
 {
     let mut values = Vec::new(alloc);
@@ -62,12 +62,10 @@ fn status_value(
     requires boxes { length boxes.now ≡ length problem.now.boxes }
     requires stands { AllStand (tableau_of tableau.now) stands.now }
     requires long { length stands.now ≡ length tableau.now.outsides + length tableau.now.basics }
-    requires ends { ends.now ≡ ends_of (linear_program problem.now) (box_at boxes.now) (tableau_of tableau.now) }
+    requires ends { ends.now ≡ ends_in problem.now boxes.now tableau.now }
     requires column { column < length tableau.now.outsides }
-    ensures value { let P = linear_program problem.now in
-        IfOk result (λ x. x ≡ status_value_of P (box_at boxes.now) (tableau_of tableau.now) column) }
-    ensures unfit { let P = linear_program problem.now in
-        IfErr result (λ i. IsRowUnfit P (box_at boxes.now) (tableau_of tableau.now) i) }
+    ensures value { IfOk result (λ x. x ≡ status_value_in problem.now boxes.now tableau.now column) }
+    ensures unfit { IfErr result (λ i. IsRowUnfitIn problem.now boxes.now tableau.now i) }
 {
     match stands[column] {
         Stand::Basic(row) => match basic_value(problem, boxes, tableau, ends, row) {

@@ -1,11 +1,11 @@
 ghost use Rattle.std.specs.Prelude.{◌≡◌, ◌+◌, ◌<◌, ◌≤◌, length, IfOk, if◌then◌else◌};
 ghost use Rattle.hys_number.specs.Ops.{neg, whole};
-ghost use Rattle.hys_lin.specs.Ranges.{box_at};
 ghost use Rattle.hys_relax.specs.LinearProgram.{linear_program};
 ghost use Rattle.hys_simplex.specs.Tableau.{IsOf};
 ghost use Rattle.hys_simplex.specs.Status.{raised, is_raised_above};
 ghost use Rattle.hys_tab.specs.Table.{tableau_of};
-ghost use Rattle.hys_dual.specs.Standing.{AllStand, ends_of};
+ghost use Rattle.hys_dual.specs.Standing.{AllStand};
+ghost use Rattle.hys_dual.specs.Tables.{ends_in};
 
 use crate::end::End;
 use crate::ranges::end_of;
@@ -82,8 +82,7 @@ pub fn ends(
     requires boxes { length boxes.now ≡ length problem.now.boxes }
     requires stands { AllStand (tableau_of tableau.now) stands.now }
     requires long { length stands.now ≡ length tableau.now.outsides + length tableau.now.basics }
-    ensures { let P = linear_program problem.now in
-        IfOk result (λ es. es.items ≡ ends_of P (box_at boxes.now) (tableau_of tableau.now)) }
+    ensures { IfOk result (λ es. es.items ≡ ends_in problem.now boxes.now tableau.now) }
 {
     let mut ends = Vec::new(alloc);
     for column in 0..tableau.columns() {

@@ -1,9 +1,9 @@
-ghost use Rattle.std.specs.Prelude.{◌≡◌, ◌+◌, ◌<◌, ◌↔◌, length, if◌then◌else◌, IsTrue};
+ghost use Rattle.std.specs.Prelude.{◌≡◌, ◌+◌, ◌<◌, ◌↔◌, length, IsTrue};
 ghost use Rattle.hys_number.specs.Ops.{◌<ₙ◌};
 ghost use Rattle.hys_lin.specs.Ranges.{box_at};
 ghost use Rattle.hys_relax.specs.LinearProgram.{linear_program};
-ghost use Rattle.hys_simplex.specs.Status.{lower as lower_of, upper as upper_of, end_or};
-ghost use Rattle.hys_dual.specs.Ranging.{IsJudged};
+ghost use Rattle.hys_simplex.specs.Status.{lower as lower_of, upper as upper_of};
+ghost use Rattle.hys_dual.specs.Ranging.{range_end, IsJudged};
 
 use hys_frac::Frac;
 use hys_lin::{Interval, Problem};
@@ -40,9 +40,7 @@ pub fn upper(problem: &Problem, boxes: &[Interval], variable: usize) -> Option<F
 pub fn end_of(problem: &Problem, boxes: &[Interval], variable: usize, above: bool) -> Frac
     requires boxes { length boxes.now ≡ length problem.now.boxes }
     requires variable { variable < length problem.now.boxes + length problem.now.rows }
-    ensures { let P = linear_program problem.now in
-        let B = box_at boxes.now in
-        result ≡ (if above then end_or (upper_of P B variable) (lower_of P B variable) else lower_of P B variable) }
+    ensures { result ≡ range_end (linear_program problem.now) (box_at boxes.now) variable above }
 {
     let low = lower(problem, boxes, variable);
     if above {

@@ -2,8 +2,7 @@ ghost use Rattle.std.specs.Prelude.{◌≡◌, ℕ, length, IfOk};
 ghost use Rattle.hys_lin.specs.Problem.{IsProblem};
 ghost use Rattle.hys_lin.specs.Ranges.{box_at};
 ghost use Rattle.hys_relax.specs.Node.{node_boxes as node_boxes_of};
-ghost use Rattle.hys_simplex.specs.Path.{tableau_after};
-ghost use Rattle.hys_dual.specs.Choosing.{IsFinish};
+ghost use Rattle.hys_dual.specs.Choosing.{IsFinishAfter};
 ghost use Rattle.hys_dual.specs.Relaxing.{IsWarmAt, GoesOn};
 
 use crate::choice::choose;
@@ -28,8 +27,7 @@ pub fn run(
     requires warm { IsWarmAt problem.now fixings.now tableau.old path.old.items }
     ensures path { IfOk result (λ _. GoesOn problem.now fixings.now path.old.items path.new.items) }
     ensures warm { IfOk result (λ _. IsWarmAt problem.now fixings.now tableau.new path.new.items) }
-    ensures finish { let B = node_boxes_of problem.now fixings.now in
-        IfOk result (λ f. IsFinish problem.now B (tableau_after problem.now path.new.items) f) }
+    ensures finish { IfOk result (λ f. IsFinishAfter problem.now fixings.now path.new.items f) }
 {
     loop {
         match choose(alloc, problem, boxes, tableau)? {

@@ -1,16 +1,14 @@
 ghost use Rattle.std.specs.Prelude.{◌≡◌, ◌<◌, length, IfOk};
 ghost use Rattle.std.specs.Result.{result_err};
-ghost use Rattle.hys_lin.specs.Operations.{first_lost};
 ghost use Rattle.hys_lin.specs.Over.{AreTermsOver};
 ghost use Rattle.hys_lin.specs.Problem.{IsProblem};
 ghost use Rattle.hys_lin.specs.Ranges.{box_at};
 ghost use Rattle.hys_lin.specs.Scaled.{AnswersLost};
-ghost use Rattle.hys_lin.specs.Sums.{at};
 ghost use Rattle.hys_relax.specs.LinearProgram.{row_at};
 ghost use Rattle.hys_relax.specs.Bound.{AreLawful, lesser_end as lesser_end_of};
-ghost use Rattle.hys_relax.specs.BoundSum.{bound_operations, constant_operations, end_operations};
-ghost use Rattle.hys_relax.specs.BoundSum.{summed_coefficient, summed_constant, summed_ends};
+ghost use Rattle.hys_relax.specs.BoundSum.{bound_operations, summed_constant};
 ghost use Rattle.hys_lagrange.specs.Costs.{with_cost};
+ghost use Rattle.hys_lagrange.specs.Summing.{summed_bound, summed_over, constant_lost, lost_over};
 
 use crate::coefficients::coefficients;
 use crate::products::{less_product, plus_product};
@@ -32,12 +30,8 @@ pub fn bound_sum(
     requires cost { AreTermsOver (length problem.now.boxes) cost.now.terms }
     requires boxes { length boxes.now ≡ length problem.now.boxes }
     requires lawful { AreLawful problem.now pairs.now }
-    ensures value { let p = with_cost problem.now cost.now in
-        let d = summed_coefficient p pairs.now in
-        let start = summed_constant p pairs.now in
-        IfOk result (λ z. z ≡ summed_ends start d (box_at boxes.now) (length problem.now.boxes)) }
-    ensures lost { let p = with_cost problem.now cost.now in
-        AnswersLost result (bound_operations p (box_at boxes.now) pairs.now) }
+    ensures value { IfOk result (λ z. z ≡ summed_bound (with_cost problem.now cost.now) boxes.now pairs.now) }
+    ensures lost { AnswersLost result (bound_operations (with_cost problem.now cost.now) (box_at boxes.now) pairs.now) }
 {
     let coefficients = coefficients(alloc, problem, cost, pairs)?;
     let start = constant_sum(problem, cost, pairs)?;
@@ -58,8 +52,7 @@ fn row_bound(problem: &Problem, row: u32) -> Frac
 fn constant_sum(problem: &Problem, cost: &Affine, pairs: &[(u32, Frac)]) -> Result<Frac, Lost>
     requires lawful { AreLawful problem.now pairs.now }
     ensures value { IfOk result (λ r. r ≡ summed_constant (with_cost problem.now cost.now) pairs.now) }
-    ensures lost { let p = with_cost problem.now cost.now in
-        result_err result ≡ first_lost (constant_operations p pairs.now) }
+    ensures lost { result_err result ≡ constant_lost (with_cost problem.now cost.now) pairs.now }
 {
     let mut sum = cost.constant;
     for k in 0..pairs.len() {
@@ -72,10 +65,8 @@ fn constant_sum(problem: &Problem, cost: &Affine, pairs: &[(u32, Frac)]) -> Resu
 // From the start each coefficient times the end of its box that makes the product less.
 fn ends_sum(start: Frac, coefficients: &[Frac], boxes: &[Interval]) -> Result<Frac, Lost>
     requires { length boxes.now ≡ length coefficients.now }
-    ensures value { let d = at coefficients.now in
-        IfOk result (λ r. r ≡ summed_ends start d (box_at boxes.now) (length boxes.now)) }
-    ensures lost { let os = end_operations start (at coefficients.now) (box_at boxes.now) (length boxes.now) in
-        result_err result ≡ first_lost os }
+    ensures value { IfOk result (λ r. r ≡ summed_over start coefficients.now boxes.now) }
+    ensures lost { result_err result ≡ lost_over start coefficients.now boxes.now }
 {
     let mut sum = start;
     for column in 0..boxes.len() {

@@ -1,15 +1,14 @@
 ghost use Rattle.std.specs.Prelude.{◌≡◌, ◌<◌, length, IfOk};
 ghost use Rattle.std.specs.Result.{result_err};
-ghost use Rattle.hys_lin.specs.Operations.{first_lost};
 ghost use Rattle.hys_lin.specs.Over.{AreTermsOver};
 ghost use Rattle.hys_lin.specs.Problem.{IsProblem};
 ghost use Rattle.hys_lin.specs.Scaled.{AnswersLost};
 ghost use Rattle.hys_relax.specs.LinearProgram.{factor_at};
 ghost use Rattle.hys_relax.specs.Bound.{AreLawful};
-ghost use Rattle.hys_relax.specs.BoundSum.{joined_to, coefficient_operations, summed_coefficient};
+ghost use Rattle.hys_relax.specs.BoundSum.{summed_coefficient};
 ghost use Rattle.hys_lagrange.specs.Costs.{with_cost};
 ghost use Rattle.hys_lagrange.specs.Gathered.{AreCoefficients};
-ghost use Rattle.hys_lagrange.specs.Listed.{listed};
+ghost use Rattle.hys_lagrange.specs.Summing.{summed_coefficients, column_operations, coefficient_lost};
 
 use crate::gather::gathered;
 use crate::products::{factor, plus_product};
@@ -28,10 +27,8 @@ pub fn coefficients(
     requires problem { IsProblem problem.now }
     requires cost { AreTermsOver (length problem.now.boxes) cost.now.terms }
     requires lawful { AreLawful problem.now pairs.now }
-    ensures value { let p = with_cost problem.now cost.now in
-        IfOk result (λ ds. AreCoefficients p pairs.now ds.items) }
-    ensures lost { let p = with_cost problem.now cost.now in
-        AnswersLost result (joined_to (length problem.now.boxes) (coefficient_operations p pairs.now)) }
+    ensures value { IfOk result (λ ds. AreCoefficients (with_cost problem.now cost.now) pairs.now ds.items) }
+    ensures lost { AnswersLost result (column_operations (with_cost problem.now cost.now) pairs.now) }
 {
     match gathered(alloc, problem, cost, pairs)? {
         Some(list) => Ok(list),
@@ -47,10 +44,8 @@ fn one_by_one(
     pairs: &[(u32, Frac)],
 ) -> Result<Vec<Frac>, LinFault>
     requires lawful { AreLawful problem.now pairs.now }
-    ensures value { let p = with_cost problem.now cost.now in
-        IfOk result (λ ds. ds.items ≡ listed (length problem.now.boxes) (summed_coefficient p pairs.now)) }
-    ensures lost { let p = with_cost problem.now cost.now in
-        AnswersLost result (joined_to (length problem.now.boxes) (coefficient_operations p pairs.now)) }
+    ensures value { IfOk result (λ ds. ds.items ≡ summed_coefficients (with_cost problem.now cost.now) pairs.now) }
+    ensures lost { AnswersLost result (column_operations (with_cost problem.now cost.now) pairs.now) }
 {
     let mut list = Vec::new(alloc);
     for column in 0..problem.boxes.items().len() {
@@ -68,10 +63,8 @@ fn coefficient(
     column: usize,
 ) -> Result<Frac, Lost>
     requires lawful { AreLawful problem.now pairs.now }
-    ensures value { let p = with_cost problem.now cost.now in
-        IfOk result (λ r. r ≡ summed_coefficient p pairs.now column) }
-    ensures lost { let p = with_cost problem.now cost.now in
-        result_err result ≡ first_lost (coefficient_operations p pairs.now column) }
+    ensures value { IfOk result (λ r. r ≡ summed_coefficient (with_cost problem.now cost.now) pairs.now column) }
+    ensures lost { result_err result ≡ coefficient_lost (with_cost problem.now cost.now) pairs.now column }
 {
     let mut sum = factor(cost.terms.items(), column);
     for k in 0..pairs.len() {

@@ -24,8 +24,7 @@ pub fn gathered(
     requires problem { IsProblem problem.now }
     requires cost { AreTermsOver (length problem.now.boxes) cost.now.terms }
     requires lawful { AreLawful problem.now pairs.now }
-    ensures { let p = with_cost problem.now cost.now in
-        IfOk result (λ o. IfSome o (λ ds. AreGathered p pairs.now ds.items)) }
+    ensures { IfOk result (λ o. IfSome o (λ ds. AreGathered (with_cost problem.now cost.now) pairs.now ds.items)) }
 {
     let mut sums = factors(alloc, cost.terms.items(), problem.boxes.items().len())?;
     for k in 0..pairs.len() {

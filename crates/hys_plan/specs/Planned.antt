@@ -1,5 +1,5 @@
 -- What a search at its end claims.
-use Rattle.std.specs.Prelude.{◌≡◌, ℕ, ◌<◌, true, length, get_or, Some, None, ◌⊎◌}
+use Rattle.std.specs.Prelude.{◌≡◌, ℕ, ◌+◌, ◌^◌, ◌<◌, ◌≤◌, true, length, get_or, Some, None, ◌⊎◌}
 use Rattle.hys_number.specs.Number.{Number}
 use Rattle.hys_number.specs.Ops.{◌≤ₙ◌}
 use Rattle.hys_lin.specs.declared.problem.Problem.{Problem}
@@ -25,6 +25,10 @@ NoneOpen C = (k : ℕ) → k < length C.waiting → IsSettledBy C.found (get_or 
 -- no open node waits, or as many nodes were expanded as were allowed
 abbrev pub IsStopped : Core → Type 0
 IsStopped C = NoneOpen C ⊎ (C.expanded ≡ C.limit)
+
+-- as many nodes are allowed as the largest tree over the problem's branch columns has
+abbrev pub AllowsAll : Problem → ℕ → Type 0
+AllowsAll p nodes = 2 ^ (length p.branch + 1) ≤ nodes + 1
 
 abbrev pub WhyHolds : Core → Why → Type 0
 WhyHolds C (Spent n) = (n ≡ C.limit) × (n ≡ C.expanded) × ((k : ℕ) × IsOpenAt C k)

@@ -1,9 +1,9 @@
-ghost use Rattle.std.specs.Prelude.{◌≡◌, ◌≤◌, ◌+◌, ◌^◌, ℕ, true, false, length, IfOk, MatchOption};
+ghost use Rattle.std.specs.Prelude.{◌≡◌, ℕ, true, false, IfOk, MatchOption};
 ghost use Rattle.hys_search.specs.Core.{Holds, NoneKept};
 ghost use Rattle.hys_search.specs.Places.{IsLower, IsKeptCause};
 ghost use Rattle.hys_search.specs.Standings.{IsSettledBy, Beats};
 ghost use Rattle.hys_plan.specs.Answer.{IsNotSpent};
-ghost use Rattle.hys_plan.specs.Planned.{IsOpenAt, NoneOpen, IsStopped, EndClaims, IsAnswerOf};
+ghost use Rattle.hys_plan.specs.Planned.{IsOpenAt, NoneOpen, IsStopped, AllowsAll, EndClaims, IsAnswerOf};
 
 use hys_frac::{Frac, List};
 use hys_lin::Point;
@@ -45,8 +45,7 @@ pub fn finish(alloc: Global, search: &Search) -> Result<Answer, AllocError>
     requires holds { Holds search.now }
     requires stopped { IsStopped search.now }
     ensures answer { IfOk result (λ a. IsAnswerOf search.now a) }
-    ensures ends { let C = search.now in
-        2 ^ (length C.problem.branch + 1) ≤ C.limit + 1 → IfOk result (λ a. IsNotSpent a.claim) }
+    ensures ends { AllowsAll search.now.problem search.now.limit → IfOk result (λ a. IsNotSpent a.claim) }
 {
     let tree = search.tree(alloc)?;
     let claim = conclude(alloc, search)?;
@@ -62,8 +61,7 @@ fn conclude(alloc: Global, search: &Search) -> Result<Claim, AllocError>
     requires holds { Holds search.now }
     requires stopped { IsStopped search.now }
     ensures claim { IfOk result (λ c. EndClaims search.now c) }
-    ensures ends { let C = search.now in
-        2 ^ (length C.problem.branch + 1) ≤ C.limit + 1 → IfOk result (λ c. IsNotSpent c) }
+    ensures ends { AllowsAll search.now.problem search.now.limit → IfOk result (λ c. IsNotSpent c) }
 {
     let found = best(alloc, search)?;
     let kept = search.kept(alloc)?;
@@ -88,8 +86,7 @@ fn claim(
     requires none { waits ≡ false → NoneOpen search.now }
     requires kept { MatchOption kept (NoneKept search.now) (λ w. IsKeptCause search.now w) }
     ensures claim { EndClaims search.now result }
-    ensures ends { let C = search.now in
-        2 ^ (length C.problem.branch + 1) ≤ C.limit + 1 → IsNotSpent result }
+    ensures ends { AllowsAll search.now.problem search.now.limit → IsNotSpent result }
 {
     match lower {
         None => Claim::NoneExists,

@@ -1,10 +1,10 @@
-ghost use Rattle.std.specs.Prelude.{◌≤◌, ◌+◌, ◌^◌, [], length, IfOk};
+ghost use Rattle.std.specs.Prelude.{◌≤◌, [], IfOk};
 ghost use Rattle.hys_lin.specs.Problem.{IsProblem};
 ghost use Rattle.hys_relax.specs.BoundSum.{BoundFits};
 ghost use Rattle.hys_tree.specs.Shows.{Shows};
 ghost use Rattle.hys_tree.specs.Fits.{Fits};
 ghost use Rattle.hys_plan.specs.Answer.{IsAnswered, IsNotSpent};
-ghost use Rattle.hys_plan.specs.Planned.{IsPlanned};
+ghost use Rattle.hys_plan.specs.Planned.{AllowsAll, IsPlanned};
 
 use crate::end::{finish, is_open};
 use hys_lin::Problem;
@@ -30,7 +30,7 @@ pub fn plan<P: Picker>(
     ensures shows { IfOk result (λ a. Shows problem a.tree.places a.claim) }
     ensures fits { IfOk result (λ a. Fits problem a.tree.places a.claim) }
     ensures answered { IfOk result (λ a. IsAnswered problem nodes a) }
-    ensures ends { 2 ^ (length problem.branch + 1) ≤ nodes + 1 → IfOk result (λ a. IsNotSpent a.claim) }
+    ensures ends { AllowsAll problem nodes → IfOk result (λ a. IsNotSpent a.claim) }
 {
     run(alloc, problem, nodes, picker)
 }
@@ -47,7 +47,7 @@ fn run<P: Picker>(
     requires few { nodes ≤ 500000 }
     requires plain { BoundFits problem [] [] }
     ensures planned { IfOk result (λ a. IsPlanned problem nodes a) }
-    ensures ends { 2 ^ (length problem.branch + 1) ≤ nodes + 1 → IfOk result (λ a. IsNotSpent a.claim) }
+    ensures ends { AllowsAll problem nodes → IfOk result (λ a. IsNotSpent a.claim) }
 {
     let mut search = Search::new(alloc, problem, nodes)?;
     while search.expanded() < nodes {

@@ -1,9 +1,10 @@
 -- What an expansion answers, and when.
-use Rattle.std.specs.Prelude.{◌≡◌, ℕ, suc, ◌+◌, ◌<◌, length, get_or, Option, Some, None, ◌⊎◌}
+use Rattle.std.specs.Prelude.{◌≡◌, ℕ, suc, ◌+◌, ◌<◌, List, length, get_or, Option, Some, None, ◌⊎◌}
 use Rattle.hys_number.specs.Number.{Number}
 use Rattle.hys_number.specs.Ops.{◌≤ₙ◌}
 use Rattle.hys_lin.specs.declared.form.Point.{Point}
 use Rattle.hys_relax.specs.Node.{StackedSolution, RelaxedPoint, IsLeastRelaxed}
+use Rattle.hys_relax.specs.declared.fixing.Fixing.{Fixing}
 use Rattle.hys_relax.specs.declared.range.RangeAt.{RangeAt}
 use Rattle.hys_simplex.specs.Path.{IsPathAt}
 use Rattle.hys_dual.specs.Relaxing.{IsPointAfter, GoesOn}
@@ -112,10 +113,13 @@ IsNotAbove (Some a) (Some b) = a ≤ₙ b
 abbrev pub KeepsLower : Core → Core → Type 0
 KeepsLower C D = (a b : Option Number) → IsLower C a → IsLower D b → IsNotAbove a b
 
+-- at a child of the node whose tableau is kept, the path goes on from the kept one over the boxes of these fixings
+abbrev pub GoesOnBelow : Core → ℕ → List Fixing → List (ℕ × ℕ) → Type 0
+GoesOnBelow C place fixings path = (node_at C.nodes place).parent ≡ C.warm_at → GoesOn C.problem fixings C.warm.path path
+
 -- after Branched and Found, at a child of the node whose tableau was kept, the kept path goes on from the one before
 abbrev pub WentOn : Core → ℕ → Core → Type 0
-WentOn C which D =
-    (node_at C.nodes (picked_of C which)).parent ≡ C.warm_at → GoesOn C.problem (picked_path C which) C.warm.path D.warm.path
+WentOn C which D = GoesOnBelow C (picked_of C which) (picked_path C which) D.warm.path
 
 abbrev pub PathAfter : Core → ℕ → Core → Expanded → Type 0
 PathAfter C which D Never = WentOn C which D

@@ -1,5 +1,5 @@
 -- What the search looks at in relaxed points, and why it branches a node.
-use Rattle.std.specs.Prelude.{ℕ, List, [], ◌∷◌, Bool, IsTrue, ◌⊎◌, nat_eq, Option, Some, None}
+use Rattle.std.specs.Prelude.{◌≡◌, ℕ, List, [], ◌∷◌, Bool, false, IsTrue, ◌⊎◌, nat_eq, Option, Some, None}
 use Rattle.std.specs.List.{list_any}
 use Rattle.hys_number.specs.Number.{Number}
 use Rattle.hys_number.specs.Ops.{◌<ₙ◌, whole, fits}
@@ -50,6 +50,10 @@ EachBit (c ∷ cs) x = IsBit (column_of x c) × EachBit cs x
 -- each of these columns is fixed
 abbrev pub EachFixed : List ℕ → List Fixing → Type 0
 EachFixed cs fs = (c : ℕ) → IsTrue (is_among cs c) → IsTrue (is_fixed fs c)
+
+-- one of these columns, which no fixing fixes
+abbrev pub IsFreeAmong : List ℕ → List Fixing → ℕ → Type 0
+IsFreeAmong cs fs c = IsTrue (is_among cs c) × (is_fixed fs c ≡ false)
 
 -- strictly between 0 and 1
 abbrev pub IsBetween : Number → Type 0

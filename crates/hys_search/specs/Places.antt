@@ -95,6 +95,10 @@ IsLesser o false b r = r ≡ o
 IsLesser None true b r = r ≡ Some b
 IsLesser (Some a) true b r = ((b <ₙ a) × (r ≡ Some b)) ⊎ ((a ≤ₙ b) × (r ≡ Some a))
 
+-- the lesser of a bound and that of one more node, where the node has one
+abbrev pub IsLesserWith : Option Number → List Certificate → Node → Option Number → Type 0
+IsLesserWith o cs n r = IsLesser o (is_cost n.standing) (certificate_at cs n.held).bound r
+
 abbrev pub NotBelowPlain : Problem → Option Number → Type 0
 NotBelowPlain p None = Unit {0}
 NotBelowPlain p (Some z) = plain_bound p ≤ₙ z

@@ -1,9 +1,9 @@
-ghost use Rattle.std.specs.Prelude.{◌≡◌, true, false, IsTrue, MatchOption};
+ghost use Rattle.std.specs.Prelude.{◌≡◌, true, false, MatchOption};
 ghost use Rattle.hys_number.specs.Ops.{◌≤ₙ◌, ◌<ₙ◌, whole};
 ghost use Rattle.hys_lin.specs.Bits.{IsBit};
 ghost use Rattle.hys_relax.specs.Node.{is_fixed as fixes};
 ghost use Rattle.hys_tree.specs.Shows.{InnerHolds};
-ghost use Rattle.hys_search.specs.Branching.{AllFixed, EachFixed, IsBetween, is_among, column_of};
+ghost use Rattle.hys_search.specs.Branching.{AllFixed, EachFixed, IsFreeAmong, IsBetween, column_of};
 ghost use Rattle.hys_search.specs.Standings.{IsSettledBy, Beats};
 
 use hys_frac::Frac;
@@ -56,8 +56,7 @@ pub fn free_column(problem: &Problem, fixings: &[Fixing]) -> Option<u32>
 }
 
 fn free_among(columns: &[u32], fixings: &[Fixing]) -> Option<u32>
-    ensures { MatchOption result (EachFixed columns.now fixings.now)
-        (λ c. IsTrue (is_among columns.now c) × (fixes fixings.now c ≡ false)) }
+    ensures { MatchOption result (EachFixed columns.now fixings.now) (IsFreeAmong columns.now fixings.now) }
 {
     for column in columns {
         if !is_fixed(fixings, *column) {

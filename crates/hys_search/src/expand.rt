@@ -1,12 +1,12 @@
 ghost use Rattle.std.specs.Prelude.{◌≡◌, ◌<◌, Some, length, IfOk, OnErr, vec_len, vec_capacity};
-ghost use Rattle.hys_dual.specs.Relaxing.{IsLeast, IsNever, IsStuck, IsRelaxed, IsWarm, GoesOn, EndsAfter, IsPointAfter};
+ghost use Rattle.hys_dual.specs.Relaxing.{IsLeast, IsNever, IsStuck, IsRelaxed, IsWarm, EndsAfter, IsPointAfter};
 ghost use Rattle.hys_dual.specs.Bounding.{IsBoundAt};
 ghost use Rattle.hys_search.specs.Outcome.{IsOutcome, IsPointOf};
 ghost use Rattle.hys_search.specs.Branching.{cost_at, IsChosen};
-ghost use Rattle.hys_search.specs.Nodes.{node_at, path};
+ghost use Rattle.hys_search.specs.Nodes.{path};
 ghost use Rattle.hys_search.specs.Standings.{IsSettledBy, bound_of};
 ghost use Rattle.hys_search.specs.Core.{core, picked_of, picked_path, Holds, HasRoom, settled, with_certificate, IsHeldBetter};
-ghost use Rattle.hys_search.specs.Answers.{IsExpanded, PathAfter};
+ghost use Rattle.hys_search.specs.Answers.{IsExpanded, GoesOnBelow, PathAfter};
 ghost use Rattle.hys_search.specs.declared.expand.Expanded.TheVariants.{Never as never, Closed as closed_it};
 ghost use Rattle.hys_search.specs.declared.nodes.Standing.TheVariants.{Closed as closed};
 
@@ -92,8 +92,7 @@ fn relax(
     ensures relaxed { IfOk result (λ r. IsRelaxed table.now.problem fixings.now r.0) }
     ensures ends { IfOk result (λ r. EndsAfter table.now.problem fixings.now r.1.path r.0) }
     ensures warm { IfOk result (λ r. IsWarm table.now.problem fixings.now r.1) }
-    ensures path { IfOk result (λ r. (node_at (core table.now).nodes place).parent ≡ table.now.warm_at →
-        GoesOn table.now.problem fixings.now table.now.warm.path r.1.path) }
+    ensures path { IfOk result (λ r. GoesOnBelow (core table.now) place fixings.now r.1.path) }
 {
     if table.nodes[place].parent == table.warm_at {
         return solve_from(alloc, &table.problem, fixings, &table.warm);

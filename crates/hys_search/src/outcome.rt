@@ -1,9 +1,9 @@
-ghost use Rattle.std.specs.Prelude.{◌≡◌, ℕ, List, IfOk, length};
+ghost use Rattle.std.specs.Prelude.{◌≡◌, IfOk, length};
 ghost use Rattle.hys_lin.specs.Problem.{IsProblem};
 ghost use Rattle.hys_relax.specs.Node.{IsNode};
-ghost use Rattle.hys_dual.specs.Relaxing.{IsRelaxed, EndsAfter, PointFits};
+ghost use Rattle.hys_dual.specs.Relaxing.{IsRelaxed, PointFits};
 ghost use Rattle.hys_search.specs.Branching.{cost_at};
-ghost use Rattle.hys_search.specs.Outcome.{IsOutcome, IsPointOf};
+ghost use Rattle.hys_search.specs.Outcome.{IsOutcome, KeepsPoint};
 
 use crate::branching::branch_column;
 use hys_dual::{Relaxed, bound_at};
@@ -48,8 +48,7 @@ pub fn judge(
     requires node { IsNode problem.now fixings.now }
     requires relaxed { IsRelaxed problem.now fixings.now relaxed }
     ensures outcome { IfOk result (λ o. IsOutcome problem.now fixings.now o) }
-    ensures point { IfOk result (λ o. (path : List (ℕ × ℕ)) →
-        EndsAfter problem.now fixings.now path relaxed → IsPointOf problem.now fixings.now path o) }
+    ensures point { IfOk result (λ o. KeepsPoint problem.now fixings.now relaxed o) }
 {
     match relaxed {
         Relaxed::Never { multipliers } => Ok(Outcome::Never { multipliers }),

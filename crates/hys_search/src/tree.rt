@@ -3,7 +3,7 @@ ghost use Rattle.hys_tree.specs.declared.tree.TreePlace.TheVariants.{Cost as cos
 ghost use Rattle.hys_search.specs.Nodes.{IsRising, opened, first_child, shape, labels};
 ghost use Rattle.hys_search.specs.Standings.{certificate_at};
 ghost use Rattle.hys_search.specs.Core.{core, Holds, NoneKept, IsOpenKept, IsNotOpenKept};
-ghost use Rattle.hys_search.specs.Places.{place_of, places_of, is_cost, IsLower, IsLesser, IsKeptCause};
+ghost use Rattle.hys_search.specs.Places.{place_of, places_of, is_cost, IsLower, IsLesserWith, IsKeptCause};
 
 use crate::columns::is_settled;
 use crate::nodes::{Certificate, Node, Standing, Table};
@@ -163,8 +163,7 @@ pub fn lower(table: &Table) -> Option<Frac>
 // The lesser of a bound and that of one more node, where it has one.
 fn lesser(least: Option<Frac>, certificates: &Vec<Certificate>, node: &Node) -> Option<Frac>
     requires { first_child node.now.standing ≡ None → node.now.held < length certificates.now.items }
-    ensures { let c = certificate_at certificates.now.items node.now.held in
-        IsLesser least (is_cost node.now.standing) c.bound result }
+    ensures { IsLesserWith least certificates.now.items node.now result }
 {
     if !is_cost_leaf(node.standing) {
         return least;
