@@ -13,6 +13,7 @@ use Rattle.hys_lin.specs.declared.form.Interval.{Interval}
 use Rattle.hys_lin.specs.declared.lost.Lost.{Lost}
 use Rattle.hys_lin.specs.declared.lost.LinFault.{LinFault}
 use Rattle.hys_lin.specs.declared.lost.LinFault.TheVariants as lin
+use Rattle.hys_relax.specs.Bound.{lesser_end, least_product}
 use Rattle.hys_relax.specs.BoundSum.{end_operations}
 use Rattle.hys_sys.specs.declared.system.Output.{Output}
 use Rattle.hys_sys.specs.declared.system.System.{System}
@@ -66,11 +67,15 @@ add_constants ws [] k = k
 add_constants [] (o ∷ os) k = k
 add_constants (w ∷ ws) (o ∷ os) k = add_constants ws os (k +ₙ w *ₙ o.form.constant)
 
+-- of the outputs of one step
+abbrev pub one_step_operations : System → Request → Number → List Lost
+one_step_operations S r k = output_operations r.step_cost k r.output_cost S.outputs
+
 -- of n steps, where the constant so far is k: it goes on from step to step
 abbrev pub step_operations : System → Request → ℕ → Number → List Lost
 step_operations S r zero k = []
 step_operations S r (suc n) k =
-    output_operations r.step_cost k r.output_cost S.outputs ++ step_operations S r n (add_constants r.output_cost S.outputs k)
+    one_step_operations S r k ++ step_operations S r n (add_constants r.output_cost S.outputs k)
 
 abbrev pub constant_after : System → Request → ℕ → Number → Number
 constant_after S r zero k = k
@@ -90,6 +95,10 @@ cost_coefficients S r = each_step 0 r.horizon (step_coefficients S r) ++ r.final
 -- its box that makes it less is added
 abbrev pub plain_operations : List Number → Number → List Interval → List Lost
 plain_operations fs k boxes = end_operations k (at fs) (box_at boxes) (length boxes)
+
+-- of one of them: the product, and its sum with the bound so far
+abbrev pub least_operations : Number → Number → Interval → List Lost
+least_operations bound factor box = times factor (lesser_end factor box) ∷ plus bound (least_product factor box) ∷ []
 
 -- all numbers of a request
 abbrev pub request_operations : System → Request → List Lost

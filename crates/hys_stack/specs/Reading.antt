@@ -1,6 +1,7 @@
 -- What a JSON value says of a request for a system: the first thing that is wrong, in the order in which it is looked
 -- for, and the request that the value stands for.
 use Rattle.std.specs.Prelude.{◌≡◌, ℕ, ◌*◌, List, [], ◌∷◌, ◌++◌, Option, Some, None, is_some, Bool, true, false, not, ◌&&◌, ◌||◌, map, filter, cond, codes, nat_lt, ◌⊎◌, Result, Ok, Err}
+use Rattle.std.specs.Borrow.{Bor}
 use Rattle.std.specs.declared.cmp.Ordering.{Ordering}
 use Rattle.std.specs.declared.cmp.Ordering.TheVariants.{Less, Equal, Greater}
 use Rattle.serde_json.specs.Data.{Data, Members, no_members, member}
@@ -39,6 +40,10 @@ Refuses o f = (f ≡ fault.Memory) ⊎ (o ≡ Some f)
 abbrev pub Answers : {T : Type 0} → Option RequestFault → (T → Type 0) → Result T RequestFault → Type 0
 Answers o Is (Ok x) = (o ≡ None) × Is x
 Answers o Is (Err f) = Refuses o f
+
+-- the same where nothing is said besides the fault
+abbrev pub AnswersFault : {T : Type 0} → Option RequestFault → Result T RequestFault → Type 0
+AnswersFault o r = Answers o (λ _. Unit {0}) r
 
 -- a rule that holds, or its fault
 abbrev pub unless : Bool → RequestFault → Option RequestFault
@@ -90,6 +95,10 @@ abbrev pub number_fault : List ℕ → List (List ℕ × Data) → Option Reques
 number_fault path [] = None
 number_fault path (p ∷ ps) = cond (fits_by (reading (text_in p.1))) (number_fault path ps) (Some (fault.Number (path_to path p.0)))
 
+-- the names that a list of references holds
+abbrev pub names_in : List (Bor (List ℕ)) → List (List ℕ)
+names_in names = map (λ k. k.now) names
+
 -- the first key that is none of these names
 abbrev pub name_fault : List (List ℕ) → List (List ℕ) → Option RequestFault
 name_fault names [] = None
@@ -129,6 +138,10 @@ state_names S = map column_name (state_columns S.columns)
 abbrev pub final_in : System → Data → List Number
 final_in S d = map (weight_in d) (state_names S)
 
+-- the weights are those that the value gives
+abbrev pub IsFinalIn : System → Data → List Number → Type 0
+IsFinalIn S d ws = ws ≡ final_in S d
+
 unfoldable pub final_fault : List ℕ → System → Data → Option RequestFault
 final_fault path S d = named_fault path (state_names S) d
 
@@ -136,8 +149,12 @@ final_fault path S d = named_fault path (state_names S) d
 abbrev pub isnt_fresh : List ℕ → Bool
 isnt_fresh name = not (is_fresh name)
 
+-- the names of the columns that aren't fresh
+abbrev pub own_names : List Column → List (List ℕ)
+own_names cs = filter isnt_fresh (map column_name cs)
+
 abbrev pub step_names : System → List (List ℕ)
-step_names S = filter isnt_fresh (map column_name S.columns) ++ map output_name S.outputs
+step_names S = own_names S.columns ++ map output_name S.outputs
 
 abbrev pub column_weight : Data → Column → Number
 column_weight d c = cond (is_fresh c.name) (whole 0) (weight_in d c.name)
@@ -148,12 +165,20 @@ output_weight d o = weight_in d o.name
 abbrev pub step_in : System → Data → List Number × List Number
 step_in S d = (map (column_weight d) S.columns, map (output_weight d) S.outputs)
 
+-- the weights are those that the value gives
+abbrev pub IsStepIn : System → Data → List Number × List Number → Type 0
+IsStepIn S d ws = ws ≡ step_in S d
+
 unfoldable pub step_fault : List ℕ → System → Data → Option RequestFault
 step_fault path S d = named_fault path (step_names S) d
 
 -- ---- the start
 abbrev pub start_in : System → Data → List Number
 start_in S d = map (weight_in d) (state_names S)
+
+-- the numbers are those that the value gives
+abbrev pub IsStartIn : System → Data → List Number → Type 0
+IsStartIn S d start = start ≡ start_in S d
 
 -- the first state that isn't named
 abbrev pub unnamed_fault : List (List ℕ) → Data → Option RequestFault
@@ -209,6 +234,20 @@ abbrev pub if_given : (Data → Option RequestFault) → Option Data → Option 
 if_given judge None = None
 if_given judge (Some d) = judge d
 
+-- the weights of a request, each left out or judged
+abbrev pub given_final_fault : System → Data → Option RequestFault
+given_final_fault S d = if_given (final_fault (codes "final") S) (get (codes "final") d)
+
+abbrev pub given_step_fault : System → Data → Option RequestFault
+given_step_fault S d = if_given (step_fault (codes "step") S) (get (codes "step") d)
+
+-- and what they are then: those of nothing where they are left out
+abbrev pub IsGivenFinal : System → Data → List Number → Type 0
+IsGivenFinal S d ws = IsFinalIn S (member_in (codes "final") d) ws
+
+abbrev pub IsGivenStep : System → Data → List Number × List Number → Type 0
+IsGivenStep S d ws = IsStepIn S (member_in (codes "step") d) ws
+
 abbrev pub request_in : System → Data → Request
 request_in S d = record {
   horizon = whole_in (member_in (codes "horizon") d);
@@ -251,12 +290,11 @@ unfoldable pub search_fault : Data → Option RequestFault
 search_fault d = or_else (counts_fault d) (pick_fault (codes "pick") (member_in (codes "pick") d))
 
 unfoldable pub front_fault : System → Data → Option RequestFault
-front_fault S d = or_else (if_given (final_fault (codes "final") S) (get (codes "final") d)) (search_fault d)
+front_fault S d = or_else (given_final_fault S d) (search_fault d)
 
 unfoldable pub back_fault : System → Data → Option RequestFault
 back_fault S d =
-    or_else (start_fault (codes "start") S (member_in (codes "start") d))
-    (if_given (step_fault (codes "step") S) (get (codes "step") d))
+    or_else (start_fault (codes "start") S (member_in (codes "start") d)) (given_step_fault S d)
 
 unfoldable pub fields_fault : System → Data → Option RequestFault
 fields_fault S d = or_else (front_fault S d) (back_fault S d)

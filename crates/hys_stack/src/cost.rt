@@ -1,13 +1,13 @@
 //! The cost of a stacked problem, and the sum of its plain bound.
 
-ghost use Rattle.std.specs.Prelude.{◌≡◌, [], ◌∷◌, ◌<◌, ◌^◌, ◌++◌, if◌then◌else◌, is_ok, length, All, IfOk};
+ghost use Rattle.std.specs.Prelude.{◌≡◌, ◌<◌, ◌^◌, ◌++◌, if◌then◌else◌, is_ok, length, All, IfOk};
 ghost use Rattle.std.specs.Result.{result_err};
 ghost use Rattle.hys_number.specs.Ops.{◌+ₙ◌, ◌*ₙ◌, whole};
 ghost use Rattle.hys_lin.specs.Over.{AreTermsOver};
-ghost use Rattle.hys_lin.specs.Operations.{first_lost, times, plus};
+ghost use Rattle.hys_lin.specs.Operations.{first_lost};
 ghost use Rattle.hys_lin.specs.Scaled.{kept};
 ghost use Rattle.hys_relax.specs.Bound.{lesser_end, least_product};
-ghost use Rattle.hys_stack.specs.Numbers.{AnswersFirst, term_operations, form_operations, add_form, output_operations, add_outputs, add_constants, step_coefficients, cost_coefficients, cost_constant, step_operations, plain_operations};
+ghost use Rattle.hys_stack.specs.Numbers.{AnswersFirst, term_operations, form_operations, add_form, output_operations, add_outputs, add_constants, step_coefficients, cost_coefficients, cost_constant, one_step_operations, step_operations, plain_operations, least_operations};
 ghost use Rattle.hys_stack.specs.Terms.{terms_from};
 
 use crate::fault::StackFault;
@@ -75,8 +75,7 @@ fn push_step(
     requires long { length request.now.output_cost ≡ length system.now.outputs }
     ensures sums { IfOk result (λ _. out.new.items ≡ out.old.items ++ step_coefficients system.now request.now 0) }
     ensures constant { IfOk result (λ k. k ≡ add_constants request.now.output_cost system.now.outputs constant) }
-    ensures lost { AnswersFirst result
-        (output_operations request.now.step_cost constant request.now.output_cost system.now.outputs) }
+    ensures lost { AnswersFirst result (one_step_operations system.now request.now constant) }
 {
     let mut sums = Vec::from_slice(alloc, request.step_cost.items())?;
     let constant = add_outputs(
@@ -124,8 +123,7 @@ fn lesser_end(factor: Frac, bounds: Interval) -> Frac
 // Adds the least product of the factor with a number of the box.
 fn add_end(bound: Frac, factor: Frac, range: Interval) -> Result<Frac, Lost>
     ensures value { IfOk result (λ r. r ≡ bound +ₙ least_product factor range) }
-    ensures lost { result_err result ≡ first_lost (times factor (lesser_end factor range) ∷
-        plus bound (least_product factor range) ∷ []) }
+    ensures lost { result_err result ≡ first_lost (least_operations bound factor range) }
 {
     add_product(bound, factor, lesser_end(factor, range))
 }

@@ -1,11 +1,11 @@
 //! The readers of starts and weights.
 
-ghost use Rattle.std.specs.Prelude.{◌≡◌, ◌++◌, map, filter, IfOk};
+ghost use Rattle.std.specs.Prelude.{◌≡◌, ◌++◌, map, IfOk};
 ghost use Rattle.serde_json.specs.View.{view};
 ghost use Rattle.hys_frac.specs.Compare.{number_cmp};
 ghost use Rattle.hys_number.specs.Ops.{whole};
 ghost use Rattle.hys_stack.specs.Requests.{state_columns, is_fresh};
-ghost use Rattle.hys_stack.specs.Reading.{Answers, isnt_fresh, isnt_greater, is_equal, is_of_kind, is_start, state_names, step_names, column_name, output_name, unnamed_fault, outside_fault, start_fault, start_in, final_fault, final_in, step_fault, step_in, column_weight, output_weight, weight_in};
+ghost use Rattle.hys_stack.specs.Reading.{Answers, AnswersFault, isnt_greater, is_equal, is_of_kind, is_start, names_in, state_names, own_names, step_names, output_name, unnamed_fault, outside_fault, start_fault, IsStartIn, final_fault, IsFinalIn, step_fault, step_in, IsStepIn, column_weight, output_weight, weight_in};
 
 use crate::boxes::is_state;
 use crate::fault::RequestFault;
@@ -19,7 +19,7 @@ use std::cmp::Ordering;
 
 // The names of the states.
 fn state_names<'s>(alloc: Global, system: &'s System) -> Result<Vec<&'s str>, AllocError>
-    ensures { IfOk result (λ names. map (λ k. k.now) names.items ≡ state_names system.now) }
+    ensures { IfOk result (λ names. names_in names.items ≡ state_names system.now) }
 {
     let mut names = Vec::new(alloc);
     for column in system.columns.items() {
@@ -39,8 +39,7 @@ fn is_fresh(name: &str) -> bool
 }
 
 fn push_columns<'s>(names: &mut Vec<&'s str>, columns: &'s [Column]) -> Result<(), AllocError>
-    ensures { IfOk result (λ _. map (λ k. k.now) names.new.items ≡
-        map (λ k. k.now) names.old.items ++ filter isnt_fresh (map column_name columns.now)) }
+    ensures { IfOk result (λ _. names_in names.new.items ≡ names_in names.old.items ++ own_names columns.now) }
 {
     for column in columns {
         if !is_fresh(column.name.text()) {
@@ -51,8 +50,8 @@ fn push_columns<'s>(names: &mut Vec<&'s str>, columns: &'s [Column]) -> Result<(
 }
 
 fn push_outputs<'s>(names: &mut Vec<&'s str>, outputs: &'s [Output]) -> Result<(), AllocError>
-    ensures { IfOk result (λ _. map (λ k. k.now) names.new.items ≡
-        map (λ k. k.now) names.old.items ++ map output_name outputs.now) }
+    ensures { IfOk result (λ _. names_in names.new.items ≡
+        names_in names.old.items ++ map output_name outputs.now) }
 {
     for output in outputs {
         names.push(output.name.text())?;
@@ -62,7 +61,7 @@ fn push_outputs<'s>(names: &mut Vec<&'s str>, outputs: &'s [Output]) -> Result<(
 
 // The names that weights of a step may have.
 fn step_names<'s>(alloc: Global, system: &'s System) -> Result<Vec<&'s str>, AllocError>
-    ensures { IfOk result (λ names. map (λ k. k.now) names.items ≡ step_names system.now) }
+    ensures { IfOk result (λ names. names_in names.items ≡ step_names system.now) }
 {
     let mut names = Vec::new(alloc);
     push_columns(&mut names, system.columns.items())?;
@@ -98,7 +97,7 @@ pub fn read_final(
     path: &str,
 ) -> Result<List<Frac>, RequestFault>
     ensures { Answers (final_fault path.now system.now (view value.now))
-        (λ ws. ws ≡ final_in system.now (view value.now)) result }
+        (IsFinalIn system.now (view value.now)) result }
 {
     let names = state_names(alloc, system)?;
     check_named(alloc, value, &names, path)?;
@@ -167,7 +166,7 @@ pub fn read_step(
     path: &str,
 ) -> Result<(List<Frac>, List<Frac>), RequestFault>
     ensures { Answers (step_fault path.now system.now (view value.now))
-        (λ ws. ws ≡ step_in system.now (view value.now)) result }
+        (IsStepIn system.now (view value.now)) result }
 {
     let names = step_names(alloc, system)?;
     check_named(alloc, value, &names, path)?;
@@ -176,7 +175,7 @@ pub fn read_step(
 
 // Whether the object has each of the names.
 fn check_all_named(alloc: Global, value: &Value, names: &[&str]) -> Result<(), RequestFault>
-    ensures { Answers (unnamed_fault (map (λ k. k.now) names.now) (view value.now)) (λ _. Unit {0}) result }
+    ensures { AnswersFault (unnamed_fault (names_in names.now) (view value.now)) result }
 {
     for name in names {
         if value.get(*name).is_none() {
@@ -220,7 +219,7 @@ fn is_start(column: &Column, number: Frac) -> bool
 
 // Whether each state may start from the number under its name.
 fn check_inside(alloc: Global, columns: &[Column], value: &Value) -> Result<(), RequestFault>
-    ensures { Answers (outside_fault (state_columns columns.now) (view value.now)) (λ _. Unit {0}) result }
+    ensures { AnswersFault (outside_fault (state_columns columns.now) (view value.now)) result }
 {
     for column in columns {
         if is_state(column) && !is_start(column, weight(value, column.name.text())) {
@@ -241,7 +240,7 @@ pub fn read_start(
     path: &str,
 ) -> Result<List<Frac>, RequestFault>
     ensures { Answers (start_fault path.now system.now (view value.now))
-        (λ start. start ≡ start_in system.now (view value.now)) result }
+        (IsStartIn system.now (view value.now)) result }
 {
     let names = state_names(alloc, system)?;
     check_named(alloc, value, &names, path)?;

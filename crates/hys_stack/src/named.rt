@@ -1,10 +1,10 @@
 //! Objects from names to fractions.
 
-ghost use Rattle.std.specs.Prelude.{◌≡◌, map};
+ghost use Rattle.std.specs.Prelude.{◌≡◌};
 ghost use Rattle.serde_json.specs.View.{view, members_view};
 ghost use Rattle.hys_json.specs.Values.{fraction_in, is_one_of, keys_of, fits_by, text_in};
 ghost use Rattle.hys_frac.specs.Read.{reading};
-ghost use Rattle.hys_stack.specs.Reading.{Answers, pairs_of, shape_fault, number_fault, name_fault, members_fault, named_fault, weight_in};
+ghost use Rattle.hys_stack.specs.Reading.{AnswersFault, names_in, pairs_of, shape_fault, number_fault, name_fault, members_fault, named_fault, weight_in};
 
 use crate::fault::RequestFault;
 use crate::paths::{number_under, shape_here, shape_under, wrong_name};
@@ -14,7 +14,7 @@ use std::alloc::Global;
 
 // Whether each value is a string.
 fn check_shapes(alloc: Global, members: &Map<String, Value>, path: &str) -> Result<(), RequestFault>
-    ensures { Answers (shape_fault path.now (pairs_of (members_view members.now.entries))) (λ _. Unit {0}) result }
+    ensures { AnswersFault (shape_fault path.now (pairs_of (members_view members.now.entries))) result }
 {
     for (key, value) in members.iter() {
         if value.as_str().is_none() {
@@ -58,7 +58,7 @@ fn check_numbers(
     members: &Map<String, Value>,
     path: &str,
 ) -> Result<(), RequestFault>
-    ensures { Answers (number_fault path.now (pairs_of (members_view members.now.entries))) (λ _. Unit {0}) result }
+    ensures { AnswersFault (number_fault path.now (pairs_of (members_view members.now.entries))) result }
 {
     for (key, value) in members.iter() {
         if !is_fraction(value) {
@@ -70,7 +70,7 @@ fn check_numbers(
 
 /// Whether the key is one of the names.
 pub fn is_one_of(names: &[&str], key: &str) -> bool
-    ensures { result ≡ is_one_of (map (λ k. k.now) names.now) key.now }
+    ensures { result ≡ is_one_of (names_in names.now) key.now }
 {
     for name in names {
         if *name == key {
@@ -87,8 +87,7 @@ fn check_names(
     members: &Map<String, Value>,
     names: &[&str],
 ) -> Result<(), RequestFault>
-    ensures { Answers (name_fault (map (λ k. k.now) names.now) (keys_of (members_view members.now.entries)))
-        (λ _. Unit {0}) result }
+    ensures { AnswersFault (name_fault (names_in names.now) (keys_of (members_view members.now.entries))) result }
 {
     for key in members.keys() {
         if !is_one_of(names, key.as_str()) {
@@ -106,8 +105,7 @@ fn check_members(
     names: &[&str],
     path: &str,
 ) -> Result<(), RequestFault>
-    ensures { Answers (members_fault path.now (map (λ k. k.now) names.now) (members_view members.now.entries))
-        (λ _. Unit {0}) result }
+    ensures { AnswersFault (members_fault path.now (names_in names.now) (members_view members.now.entries)) result }
 {
     check_shapes(alloc, members, path)?;
     check_numbers(alloc, members, path)?;
@@ -123,7 +121,7 @@ pub fn check_named(
     names: &[&str],
     path: &str,
 ) -> Result<(), RequestFault>
-    ensures { Answers (named_fault path.now (map (λ k. k.now) names.now) (view value.now)) (λ _. Unit {0}) result }
+    ensures { AnswersFault (named_fault path.now (names_in names.now) (view value.now)) result }
 {
     match value.as_object() {
         Some(members) => check_members(alloc, members, names, path),

@@ -1,12 +1,11 @@
 //! The text of a request, read for a system.
 
-ghost use Rattle.std.specs.Prelude.{◌≡◌, ◌⊎◌, [], map, codes};
+ghost use Rattle.std.specs.Prelude.{◌≡◌, ◌⊎◌, []};
 ghost use Rattle.serde_json.specs.View.{view, members_view};
 ghost use Rattle.serde_json.specs.Errors.{IsMemory};
-ghost use Rattle.serde_json.specs.Find.{get};
-ghost use Rattle.hys_json.specs.Values.{keys_of, member_in};
+ghost use Rattle.hys_json.specs.Values.{keys_of};
 ghost use Rattle.hys_stack.specs.declared.fault.RequestFault.TheVariants as request;
-ghost use Rattle.hys_stack.specs.Reading.{Answers, missing_fault, unknown_fault, keys_fault, root_fault, counts_fault, counts_in, search_fault, front_fault, back_fault, fields_fault, value_fault, limit_fault, request_fault, request_in, IsSearch, IsFront, IsBack, HasKeys, if_given, final_fault, step_fault, final_in, step_in, is_counted, is_small, count_fault, size_fault};
+ghost use Rattle.hys_stack.specs.Reading.{Answers, AnswersFault, names_in, missing_fault, unknown_fault, keys_fault, root_fault, counts_fault, counts_in, search_fault, front_fault, back_fault, fields_fault, value_fault, limit_fault, request_fault, request_in, IsSearch, IsFront, IsBack, HasKeys, given_final_fault, given_step_fault, IsGivenFinal, IsGivenStep, is_counted, is_small, count_fault, size_fault};
 ghost use Rattle.hys_stack.specs.Texts.{IsRead};
 
 use crate::fault::RequestFault;
@@ -33,7 +32,7 @@ const MOST_STACKED: u64 = 600;
 const MOST_WORK: u64 = 500000;
 
 fn check_missing(alloc: Global, value: &Value, keys: &[&str]) -> Result<(), RequestFault>
-    ensures { Answers (missing_fault [] (map (λ k. k.now) keys.now) (view value.now)) (λ _. Unit {0}) result }
+    ensures { AnswersFault (missing_fault [] (names_in keys.now) (view value.now)) result }
 {
     for key in keys {
         if value.get(*key).is_none() {
@@ -49,8 +48,7 @@ fn check_unknown(
     members: &Map<String, Value>,
     keys: &[&str],
 ) -> Result<(), RequestFault>
-    ensures { Answers (unknown_fault [] (map (λ k. k.now) keys.now) (keys_of (members_view members.now.entries)))
-        (λ _. Unit {0}) result }
+    ensures { AnswersFault (unknown_fault [] (names_in keys.now) (keys_of (members_view members.now.entries))) result }
 {
     for key in members.keys() {
         if !is_one_of(keys, key.as_str()) {
@@ -67,7 +65,7 @@ fn check_keys(
     value: &Value,
     members: &Map<String, Value>,
 ) -> Result<(), RequestFault>
-    ensures { Answers (keys_fault (view value.now) (members_view members.now.entries)) (λ _. Unit {0}) result }
+    ensures { AnswersFault (keys_fault (view value.now) (members_view members.now.entries)) result }
 {
     check_missing(alloc, value, &["horizon", "nodes", "pick", "start"])?;
     check_unknown(
@@ -80,7 +78,7 @@ fn check_keys(
 // Whether the value is an object with the keys of a request.
 #[tactic(auto, unfolding(crate::specs::Reading::root_fault))]
 fn check_root(alloc: Global, value: &Value) -> Result<(), RequestFault>
-    ensures { Answers (root_fault (view value.now)) (λ _. Unit {0}) result }
+    ensures { AnswersFault (root_fault (view value.now)) result }
 {
     match value.as_object() {
         Some(members) => check_keys(alloc, value, members),
@@ -94,8 +92,7 @@ fn read_given_final(
     system: &System,
     root: &Value,
 ) -> Result<List<Frac>, RequestFault>
-    ensures { Answers (if_given (final_fault (codes "final") system.now) (get (codes "final") (view root.now)))
-        (λ ws. ws ≡ final_in system.now (member_in (codes "final") (view root.now))) result }
+    ensures { Answers (given_final_fault system.now (view root.now)) (IsGivenFinal system.now (view root.now)) result }
 {
     match root.get("final") {
         Some(value) => read_final(alloc, system, value, "final"),
@@ -108,8 +105,7 @@ fn read_given_step(
     system: &System,
     root: &Value,
 ) -> Result<(List<Frac>, List<Frac>), RequestFault>
-    ensures { Answers (if_given (step_fault (codes "step") system.now) (get (codes "step") (view root.now)))
-        (λ ws. ws ≡ step_in system.now (member_in (codes "step") (view root.now))) result }
+    ensures { Answers (given_step_fault system.now (view root.now)) (IsGivenStep system.now (view root.now)) result }
 {
     match root.get("step") {
         Some(value) => read_step(alloc, system, value, "step"),
@@ -211,7 +207,7 @@ fn is_small(horizon: u32, nodes: u32, weight: u32) -> bool
 // Whether the number is from 1 to the most.
 #[tactic(auto, unfolding(crate::specs::Reading::count_fault))]
 fn check_count(alloc: Global, number: u32, most: u32, what: &str) -> Result<(), RequestFault>
-    ensures { Answers (count_fault most what.now number) (λ _. Unit {0}) result }
+    ensures { AnswersFault (count_fault most what.now number) result }
 {
     if is_counted(number, most) {
         Ok(())
@@ -222,7 +218,7 @@ fn check_count(alloc: Global, number: u32, most: u32, what: &str) -> Result<(), 
 
 #[tactic(auto, unfolding(crate::specs::Reading::size_fault))]
 fn check_size(horizon: u32, nodes: u32, weight: u32) -> Result<(), RequestFault>
-    ensures { Answers (size_fault horizon nodes weight) (λ _. Unit {0}) result }
+    ensures { AnswersFault (size_fault horizon nodes weight) result }
 {
     if is_small(horizon, nodes, weight) {
         Ok(())
@@ -234,7 +230,7 @@ fn check_size(horizon: u32, nodes: u32, weight: u32) -> Result<(), RequestFault>
 // Whether the request keeps the limits.
 #[tactic(auto, using(crate::proofs::Judging::or_first, crate::proofs::Judging::or_second, crate::proofs::Judging::some_first, crate::proofs::Judging::some_second, crate::proofs::Judging::answers_third), unfolding(crate::specs::Reading::limit_fault))]
 fn check_limits(alloc: Global, system: &System, request: &Request) -> Result<(), RequestFault>
-    ensures { Answers (limit_fault system.now request.now) (λ _. Unit {0}) result }
+    ensures { AnswersFault (limit_fault system.now request.now) result }
 {
     check_count(alloc, request.horizon, MOST_STEPS, "horizon")?;
     check_count(alloc, request.nodes, MOST_NODES, "nodes")?;
