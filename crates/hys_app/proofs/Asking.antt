@@ -11,8 +11,8 @@ use Rattle.hys_app.specs.declared.status.Status.TheVariants.{Usage}
 use Rattle.hys_app.proofs.Stages.{calm_by, calm_reached}
 
 -- what is asked for is answered
-abbrev pub Reaches : Option Named → Option Command → Result Outcome AllocError → ℕ → ℕ → Type 0
-Reaches held asked x r r' = IfOk x (λ o. IsReached (IsOutcomeOf held asked) o r r')
+abbrev pub AnswersTo : Option Named → Option Command → Result Outcome AllocError → ℕ → ℕ → Type 0
+AnswersTo held asked x r r' = IfOk x (λ o. IsReached (IsOutcomeOf held asked) o r r')
 
 -- the form is one of two, the first where there is one
 abbrev pub IsFirst : Option Command → Option Command → Option Command → Type 0
@@ -46,14 +46,14 @@ is_passed : (form first rest : Option Command) → IsFirst form first rest → f
 is_passed form first rest f e = f ∙ ap (λ (a : Option Command). or_form a rest) e
 
 pub asked : (held : Option Named) (form first rest : Option Command) (c : Command) (x : Result Outcome AllocError) (r r' : ℕ) →
-    IsFirst form first rest → first ≡ Some c → Reaches held (Some c) x r r' → Reaches held form x r r'
+    IsFirst form first rest → first ≡ Some c → AnswersTo held (Some c) x r r' → AnswersTo held form x r r'
 asked held form first rest c x r r' f e h =
-    subst (λ (a : Option Command). Reaches held a x r r') (sym (is_asked form first rest c f e)) h
+    subst (λ (a : Option Command). AnswersTo held a x r r') (sym (is_asked form first rest c f e)) h
 
 pub passed : (held : Option Named) (form first rest : Option Command) (x : Result Outcome AllocError) (r r' : ℕ) →
-    IsFirst form first rest → first ≡ None → Reaches held rest x r r' → Reaches held form x r r'
+    IsFirst form first rest → first ≡ None → AnswersTo held rest x r r' → AnswersTo held form x r r'
 passed held form first rest x r r' f e h =
-    subst (λ (a : Option Command). Reaches held a x r r') (sym (is_passed form first rest f e)) h
+    subst (λ (a : Option Command). AnswersTo held a x r r') (sym (is_passed form first rest f e)) h
 
 some_none : (c : Command) → Some c ≡ None → ⊥
 some_none c e = absurd (cc)
@@ -67,16 +67,16 @@ none_too form first rest f e n = sym (is_passed form first rest f e) ∙ n
 
 -- ---- the last form
 pub migrate_asked : (held : Option Named) (form : Option Command) (old new : List ℕ) (x : Result Outcome AllocError) (r r' : ℕ) →
-    form ≡ Some (migrate old new) → IfOk x (λ o. IsReached (IsMigrateOutcome held old new) o r r') → Reaches held form x r r'
-migrate_asked held form old new x r r' e h = subst (λ (a : Option Command). Reaches held a x r r') (sym e) h
+    form ≡ Some (migrate old new) → IfOk x (λ o. IsReached (IsMigrateOutcome held old new) o r r') → AnswersTo held form x r r'
+migrate_asked held form old new x r r' e h = subst (λ (a : Option Command). AnswersTo held a x r r') (sym e) h
 
-usage_one : (held : Option Named) (x : Result Outcome AllocError) (r r' : ℕ) → IfOk x IsUsage → r' ≡ r → Reaches held None x r r'
+usage_one : (held : Option Named) (x : Result Outcome AllocError) (r r' : ℕ) → IfOk x IsUsage → r' ≡ r → AnswersTo held None x r r'
 usage_one held (Ok o) r r' e c = calm_reached IsUsage o r r' (calm_by o.status Usage (ap (λ (p : Outcome). p.status) e) refl) e c
 usage_one held (Err a) r r' e c = tt
 
 pub none_asked : (held : Option Named) (form : Option Command) (x : Result Outcome AllocError) (r r' : ℕ) → form ≡ None →
-    IfOk x IsUsage → r' ≡ r → Reaches held form x r r'
-none_asked held form x r r' e h c = subst (λ (a : Option Command). Reaches held a x r r') (sym e) (usage_one held x r r' h c)
+    IfOk x IsUsage → r' ≡ r → AnswersTo held form x r r'
+none_asked held form x r r' e h c = subst (λ (a : Option Command). AnswersTo held a x r r') (sym e) (usage_one held x r r' h c)
 
 pub migrate_never : (form : Option Command) (c : Command) → form ≡ Some c → form ≡ None → ⊥
 migrate_never form c e n = some_none c (sym e ∙ n)

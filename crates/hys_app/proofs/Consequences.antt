@@ -5,7 +5,7 @@ use Rattle.hys_app.specs.declared.status.Status.{Status}
 use Rattle.hys_app.specs.declared.status.Status.TheVariants.{Done, NoTrajectory, Usage, Read, Write, Source, Input, Stopped, Spent, Range, Memory}
 use Rattle.hys_app.specs.declared.outcome.NewFile.{NewFile}
 use Rattle.hys_app.specs.declared.outcome.Outcome.{Outcome}
-use Rattle.hys_app.specs.Ends.{Outside, IsAfterReads, IsCarriedOut, unput, torn, cut, short, whole, IsPut, IsTorn}
+use Rattle.hys_app.specs.Ends.{Outside, HasFailedRead, IsCarriedOut, unput, torn, cut, short, whole, IsPut, IsTorn}
 
 apart : Write ≡ Memory → ⊥
 apart e = cc
@@ -82,8 +82,8 @@ carried o result old new n (cut e p part f) = nothing_put o.file old.held new.he
 carried o result old new n (short m p part f) = nothing_put o.file old.held new.held n p.put
 carried o result old new n (whole e p said f) = nothing_put o.file old.held new.held n p.put
 
-pub failed_read : (o : Outcome) (result : Status) (old new : Outside) → IsAfterReads o old.read_faults new.read_faults → IsCarriedOut o result old new → new.read_faults ≢ old.read_faults → new.held ≡ old.held
-failed_read o result old new r c never = elim (read_or_other o.status) [
+pub failed_read : (o : Outcome) (result : Status) (old new : Outside) → IsCarriedOut o result old new → HasFailedRead o old new → new.held ≡ old.held
+failed_read o result old new c (r, never) = elim (read_or_other o.status) [
   | inl e ↦ carried o result old new (r.unput e) c
   | inr other ↦ absurd (never (r.calm other))
 ]

@@ -1,5 +1,5 @@
 -- What `demo` comes to.
-use Rattle.std.proofs.Common.{◌≡◌, ℕ, List, Option, Some, refl, sym, ap, subst, true, Result, Ok, Err, IfOk}
+use Rattle.std.proofs.Common.{◌≡◌, ℕ, List, Option, Some, refl, ap, subst, true, Result, Ok, Err, IfOk}
 use Rattle.std.specs.declared.alloc.AllocError.{AllocError}
 use Rattle.hys_io.specs.Outside.{Named}
 use Rattle.hys_lin.specs.declared.problem.Problem.{Problem}
@@ -13,13 +13,13 @@ use Rattle.hys_tree.specs.declared.answer.Answer.{Answer}
 use Rattle.hys_best.proofs.Plans.{plans_are_best}
 use Rattle.hys_gen.specs.Requested.{request_text}
 use Rattle.hys_gen.specs.Tanks.{tanks_text}
-use Rattle.hys_app.specs.Words.{Command, demo, usual_tolerance}
+use Rattle.hys_app.specs.Words.{demo, usual_tolerance}
 use Rattle.hys_app.specs.Planning.{IsPlannedFor, claim_status}
 use Rattle.hys_app.specs.Demonstrating.{saying_demo, IsDemoPlan, IsDemo}
 use Rattle.hys_app.specs.declared.outcome.Outcome.{Outcome}
 use Rattle.hys_app.proofs.Stages.{is_calm, calm_by, calm_reached}
 use Rattle.hys_app.proofs.Planning.{claim_calm}
-use Rattle.hys_app.proofs.Asking.{Reaches}
+use Rattle.hys_app.proofs.Asking.{AnswersTo}
 
 pub demo_planned : (k : ℕ) (s : System) (r : Request) (p : Problem) (a : Answer) (x : Result Outcome AllocError) → IsStacked s r p → IsPlannedFor p r a →
     IfOk x (λ o. o ≡ saying_demo k s a) → IfOk x (IsDemoPlan k s r)
@@ -42,6 +42,6 @@ demo_calm : (k : ℕ) (o : Outcome) → IsDemo k o → is_calm o.status ≡ true
 demo_calm k o h =
     calm_by o.status (claim_status h.plan.answer.claim) (ap (λ (p : Outcome). p.status) h.plan.said) (claim_calm h.plan.answer.claim)
 
-pub demo_reached : (held : Option Named) (k : ℕ) (x : Result Outcome AllocError) (r : ℕ) → IfOk x (IsDemo k) → Reaches held (Some (demo k)) x r r
+pub demo_reached : (held : Option Named) (k : ℕ) (x : Result Outcome AllocError) (r : ℕ) → IfOk x (IsDemo k) → AnswersTo held (Some (demo k)) x r r
 demo_reached held k (Ok o) r h = calm_reached (IsDemo k) o r r (demo_calm k o h) h refl
 demo_reached held k (Err m) r h = tt

@@ -12,11 +12,10 @@ use Rattle.hys_sim.specs.declared.fault.SimFault.{SimFault}
 use Rattle.hys_sim.specs.declared.fault.SimFault.TheVariants.{Csv, Rows, Column, Value, Limit, Memory}
 use Rattle.hys_sim.specs.declared.fault.Simulated.{Simulated}
 use Rattle.hys_compile.specs.declared.compiler.Compiled.{Compiled}
-use Rattle.hys_app.specs.Lines.{file_line, table_words, faulty_table, run_line}
+use Rattle.hys_app.specs.Lines.{file_line}
 use Rattle.hys_app.specs.Ends.{IsReached}
-use Rattle.hys_app.specs.Stages.{saying, putting, AreBytes, IsLong, IsUnread}
-use Rattle.hys_app.specs.Simulating.{most_bytes, IsTableEnd, unread, long, run_status, IsRunOutcome, refused, run}
-use Rattle.hys_app.specs.declared.status.Status.{Status}
+use Rattle.hys_app.specs.Stages.{saying, IsLong, IsUnread}
+use Rattle.hys_app.specs.Simulating.{most_bytes, IsTableEnd, unread, long, putting_run, refusing_table, run_status, IsRunOutcome, refused, run}
 use Rattle.hys_app.specs.declared.status.Status.TheVariants.{Input}
 use Rattle.hys_app.specs.declared.outcome.Outcome.{Outcome}
 use Rattle.hys_app.proofs.Stages.{is_calm, calm_by, calm_reached, weaker}
@@ -42,7 +41,7 @@ fault_first cs Memory n h = absurd (n refl)
 
 pub tables_refused : (c : Compiled) (start inputs target first others : List ℕ) (fault : SimFault) (x : Result Outcome AllocError) →
     IsFault (table_checks c.program first others) fault →
-    IfOk x (λ o. o ≡ saying Input (file_line (faulty_table fault start inputs) (table_words fault))) → IfOk x (λ o. fault ≢ Memory) →
+    IfOk x (λ o. o ≡ refusing_table start inputs fault) → IfOk x (λ o. fault ≢ Memory) →
     IfOk x (IsRunOutcome c start inputs target first others)
 tables_refused c start inputs target first others fault (Ok o) h e other =
     subst (IsRunOutcome c start inputs target first others) (sym e) (refused fault (fault_first (table_checks c.program first others) fault other h))
@@ -50,7 +49,7 @@ tables_refused c start inputs target first others fault (Err a) h e other = tt
 
 pub tables_run : (c : Compiled) (start inputs target first others : List ℕ) (r : Simulated) (x : Result Outcome AllocError) →
     first_fault (table_checks c.program first others) ≡ None → IsSimulated c.program c.order first others r →
-    IfOk x (λ o. o ≡ putting target r.table (run_status r.stop) (run_line c.program r.steps r.stop)) →
+    IfOk x (λ o. o ≡ putting_run target c.program r) →
     IfOk x (IsRunOutcome c start inputs target first others)
 tables_run c start inputs target first others r (Ok o) n h e = subst (IsRunOutcome c start inputs target first others) (sym e) (run r n h)
 tables_run c start inputs target first others r (Err a) n h e = tt

@@ -1,7 +1,9 @@
 -- An answer as a stage, and the lawful outcomes of `check MLD REQ ANS`.
-use Rattle.std.specs.Prelude.{◌≡◌, ◌↔◌, ℕ, ◌≤◌, List, length, Option, None, Some}
+use Rattle.std.specs.Prelude.{◌≡◌, ◌↔◌, ℕ, ◌≤◌, List, length, Option, Some, Result}
 use Rattle.std.specs.FinMap as map
+use Rattle.std.specs.declared.alloc.AllocError.{AllocError}
 use Rattle.hys_io.specs.Outside.{Named, IfHolds}
+use Rattle.hys_io.specs.declared.files.Files.{Ghosts as FilesOf}
 use Rattle.hys_lin.specs.declared.problem.Problem.{Problem}
 use Rattle.hys_sys.specs.declared.system.System.{System}
 use Rattle.hys_file.specs.declared.fault.FileFault.{FileFault}
@@ -14,7 +16,8 @@ use Rattle.hys_check.specs.declared.verdict.Verdict.TheVariants.{Yes, No}
 use Rattle.hys_answer.specs.Reading.{most_places}
 use Rattle.hys_answer.specs.Texts.{IsAnswerText, IsAnswerCause}
 use Rattle.hys_app.specs.Lines.{read_line, file_line, file_words, verdict_line}
-use Rattle.hys_app.specs.Stages.{saying, After, IsWhole}
+use Rattle.hys_app.specs.Ends.{Reaches}
+use Rattle.hys_app.specs.Stages.{saying, After, ComesTo, IsWhole}
 use Rattle.hys_app.specs.Migrating.{AfterMatrices}
 use Rattle.hys_app.specs.Planning.{AfterRequest, AfterStacking}
 use Rattle.hys_app.specs.declared.stage.Stage.{Stage}
@@ -48,6 +51,10 @@ pub record AnswerFrom (held : Option Named) (name : List ℕ) (a : Answer) : Typ
   pub multiplied : AreMultiplied a.tree.places
   pub few : length a.tree.places ≤ most_places
 
+-- a call that reads the answer
+abbrev pub ReadsAnswer : {A : Type 0} → FilesOf A → A → A → List ℕ → Result (Stage Answer) AllocError → Type 0
+ReadsAnswer F files files' name = ComesTo F files files' (λ held. IsAnswerEnd held name) (λ held. AnswerFrom held name)
+
 -- ---- a text that was read
 pub data IsAnswerTextEnd (name text : List ℕ) : Outcome → Type 0 where
   faulty : (fault : FileFault) → IsAnswerCause text fault → ((a : Answer) → ¬ (IsAnswerText text a)) →
@@ -78,11 +85,26 @@ pub record IsChecked (p : Problem) (a : Answer) (o : Outcome) : Type 0 where
 abbrev pub IsAnswerOutcome : Option Named → List ℕ → Problem → Outcome → Type 0
 IsAnswerOutcome held answer p = AfterAnswer held answer (IsChecked p)
 
+-- a call that reads the answer and checks it, the request being stacked
+abbrev pub ChecksAnswer : {A : Type 0} → FilesOf A → A → A → List ℕ → Problem → Result Outcome AllocError → Type 0
+ChecksAnswer F files files' answer p = Reaches F files files' (λ held. IsAnswerOutcome held answer p)
+
 abbrev pub IsStackedOutcome : System → Request → Option Named → List ℕ → List ℕ → Outcome → Type 0
 IsStackedOutcome s r held request answer = AfterStacking s r request (IsAnswerOutcome held answer)
 
+-- a call that stacks the request, and reads and checks the answer
+abbrev pub ChecksStacked : {A : Type 0} → FilesOf A → A → A → System → Request → List ℕ → List ℕ →
+    Result Outcome AllocError → Type 0
+ChecksStacked F files files' s r request answer =
+    Reaches F files files' (λ held. IsStackedOutcome s r held request answer)
+
 abbrev pub IsAskedOutcome : System → Option Named → List ℕ → List ℕ → Outcome → Type 0
 IsAskedOutcome s held request answer = AfterRequest s held request (λ r. IsStackedOutcome s r held request answer)
+
+-- a call that reads the request, and reads and checks the answer, the matrix text being read
+abbrev pub ChecksAsked : {A : Type 0} → FilesOf A → A → A → System → List ℕ → List ℕ → Result Outcome AllocError →
+    Type 0
+ChecksAsked F files files' s request answer = Reaches F files files' (λ held. IsAskedOutcome s held request answer)
 
 abbrev pub IsCheckOutcome : Option Named → List ℕ → List ℕ → List ℕ → Outcome → Type 0
 IsCheckOutcome held matrices request answer =

@@ -1,7 +1,9 @@
 -- The source as a stage, and the lawful outcomes of `compile SRC MLD`.
-use Rattle.std.specs.Prelude.{◌≡◌, ◌≢◌, ℕ, List, Option, Some}
+use Rattle.std.specs.Prelude.{◌≡◌, ◌≢◌, ℕ, List, Option, Some, Result}
 use Rattle.std.specs.FinMap as map
+use Rattle.std.specs.declared.alloc.AllocError.{AllocError}
 use Rattle.hys_io.specs.Outside.{Named, IfHolds}
+use Rattle.hys_io.specs.declared.files.Files.{Ghosts as FilesOf}
 use Rattle.hys_number.specs.Number.{Number}
 use Rattle.hys_file.specs.Matrix.{matrix_text}
 use Rattle.hys_sys.specs.declared.system.System.{System}
@@ -10,7 +12,7 @@ use Rattle.hys_compile.specs.declared.fault.SourceFault.{SourceFault}
 use Rattle.hys_compile.specs.Faults.{no_memory}
 use Rattle.hys_compile.specs.Text.{IsCause, IsCompiled, IsCompilable}
 use Rattle.hys_app.specs.Lines.{read_line, refused_line, compiled_line}
-use Rattle.hys_app.specs.Stages.{saying, putting, After, IsWhole}
+use Rattle.hys_app.specs.Stages.{saying, putting, After, ComesTo, IsWhole}
 use Rattle.hys_app.specs.declared.stage.Stage.{Stage}
 use Rattle.hys_app.specs.declared.stage.Stage.TheVariants.{End, Next}
 use Rattle.hys_app.specs.declared.status.Status.TheVariants.{Done, Read, Source}
@@ -41,6 +43,12 @@ pub record CompiledFrom (tolerance : Number) (held : Option Named) (source : Lis
   pub text : List ℕ
   pub whole : IsWhole held source text
   pub compiled : IsCompiled tolerance text c
+
+-- a call that reads the source and compiles it
+abbrev pub ReadsSource : {A : Type 0} → FilesOf A → A → A → Number → List ℕ → Result (Stage Compiled) AllocError →
+    Type 0
+ReadsSource F files files' tolerance source =
+    ComesTo F files files' (λ held. IsSourceEnd tolerance held source) (λ held. CompiledFrom tolerance held source)
 
 -- ---- a text that was read
 -- it is refused by a fault that it has, and never if it can be compiled

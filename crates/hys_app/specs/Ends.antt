@@ -1,5 +1,6 @@
 -- How a run ends, whatever its command: what it put and printed, and which failures of the outside it met.
-use Rattle.std.specs.Prelude.{◌≡◌, ◌≢◌, ℕ, ◌≤◌, List, take, Option, None, Some}
+use Rattle.std.specs.Prelude.{◌≡◌, ◌≢◌, ℕ, ◌≤◌, List, take, Option, None, Some, Result, IfOk}
+use Rattle.std.specs.declared.alloc.AllocError.{AllocError}
 use Rattle.hys_io.specs.Outside.{Named, Rose, IfAppended, IfPut, IfTorn}
 use Rattle.hys_io.specs.declared.files.Files.{Ghosts as FilesOf}
 use Rattle.hys_io.specs.declared.sink.Sink.{Ghosts as SinkOf}
@@ -24,6 +25,10 @@ outside F S files out = record {
   written = S.written out;
   faults = S.faults out;
 }
+
+-- this holds of what files and a sink tell at two times, one after the other
+abbrev pub Between : {A B : Type 0} → FilesOf A → SinkOf B → A → B → A → B → (Outside → Outside → Type 0) → Type 0
+Between F S files out files' out' Holds = Holds (outside F S files out) (outside F S files' out')
 
 -- something failed: the count has risen, or stands at its end
 abbrev pub Failed : ℕ → ℕ → Type 0
@@ -85,9 +90,39 @@ pub record IsReached (Lawful : Outcome → Type 0) (o : Outcome) (read_faults re
   pub lawful : Lawful o
   pub reads : IsAfterReads o read_faults read_faults'
 
+-- a call that reads files comes to an outcome that is lawful for what they hold, unless memory is wanting
+abbrev pub Reaches : {A : Type 0} → FilesOf A → A → A → (Option Named → Outcome → Type 0) → Result Outcome AllocError →
+    Type 0
+Reaches F files files' Lawful answer =
+    IfOk answer (λ o. IsReached (Lawful (F.held files)) o (F.read_faults files) (F.read_faults files'))
+
 -- A run of a command with these lawful outcomes ends in one of two ways.
 pub data Ends (Lawful : Outcome → Type 0) (result : Status) (old new : Outside) : Type 0 where
   -- no memory to come to an outcome
   unmade : result ≡ Memory → old.read_faults ≤ new.read_faults → IsUntouched old new → Ends Lawful result old new
   -- an outcome is carried out
   reached : (o : Outcome) → IsReached Lawful o old.read_faults new.read_faults → IsCarriedOut o result old new → Ends Lawful result old new
+
+-- ---- what follows from how an outcome is carried out
+-- this holds wherever an outcome is carried out
+abbrev pub IfCarriedOut : (Outcome → Status → Outside → Outside → Type 0) → Type 0
+IfCarriedOut Holds =
+    (o : Outcome) (result : Status) (old new : Outside) → IsCarriedOut o result old new → Holds o result old new
+
+-- this holds wherever carrying out an outcome ends with a status that isn't the outcome's own
+abbrev pub IfEndsWith : Status → (Outcome → Outside → Outside → Type 0) → Type 0
+IfEndsWith status Holds =
+    (o : Outcome) (old new : Outside) → o.status ≢ status → IsCarriedOut o status old new → Holds o old new
+
+-- all is done: the status is the outcome's own, its file is put and its line is printed
+abbrev pub IsDone : Outcome → Status → Outside → Outside → Type 0
+IsDone o result old new =
+    (result ≡ o.status) × IsPut o.file old.held new.held × IfAppended old.written new.written o.line
+
+-- the status is that of a failing put or print, and nothing is printed
+abbrev pub IsUnprinted : Status → Outside → Outside → Type 0
+IsUnprinted result old new = (result ≡ Write) × (new.written ≡ old.written)
+
+-- a read failed before the outcome was come to
+abbrev pub HasFailedRead : Outcome → Outside → Outside → Type 0
+HasFailedRead o old new = IsAfterReads o old.read_faults new.read_faults × (new.read_faults ≢ old.read_faults)

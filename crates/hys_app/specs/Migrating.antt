@@ -1,14 +1,16 @@
 -- A matrix text as a stage, and the lawful outcomes of `migrate OLD NEW`.
-use Rattle.std.specs.Prelude.{◌≡◌, ℕ, List, Option, Some}
+use Rattle.std.specs.Prelude.{◌≡◌, ℕ, List, Option, Some, Result}
 use Rattle.std.specs.FinMap as map
+use Rattle.std.specs.declared.alloc.AllocError.{AllocError}
 use Rattle.hys_io.specs.Outside.{Named, IfHolds}
+use Rattle.hys_io.specs.declared.files.Files.{Ghosts as FilesOf}
 use Rattle.hys_sys.specs.System.{IsSystem}
 use Rattle.hys_file.specs.Matrix.{matrix_text}
 use Rattle.hys_sys.specs.declared.system.System.{System}
 use Rattle.hys_file.specs.declared.fault.FileFault.{FileFault}
 use Rattle.hys_file.specs.Texts.{IsCause, IsTextOf}
 use Rattle.hys_app.specs.Lines.{read_line, file_line, file_words, migrated_line}
-use Rattle.hys_app.specs.Stages.{saying, putting, After, IsWhole}
+use Rattle.hys_app.specs.Stages.{saying, putting, After, ComesTo, IsWhole}
 use Rattle.hys_app.specs.declared.stage.Stage.{Stage}
 use Rattle.hys_app.specs.declared.stage.Stage.TheVariants.{End, Next}
 use Rattle.hys_app.specs.declared.status.Status.TheVariants.{Done, Read, Input}
@@ -37,6 +39,11 @@ pub record SystemFrom (held : Option Named) (name : List ℕ) (s : System) : Typ
   pub whole : IsWhole held name text
   pub stands : IsTextOf text s
   pub lawful : IsSystem s
+
+-- a call that reads the matrix text as its system
+abbrev pub ReadsMatrices : {A : Type 0} → FilesOf A → A → A → List ℕ → Result (Stage System) AllocError → Type 0
+ReadsMatrices F files files' name =
+    ComesTo F files files' (λ held. IsMatrixEnd held name) (λ held. SystemFrom held name)
 
 -- ---- a text that was read
 -- it is refused for a cause that it has, and never if it stands for a system

@@ -1,7 +1,9 @@
 -- A request as a stage, and the lawful outcomes of `plan SRC REQ ANS`.
-use Rattle.std.specs.Prelude.{◌≡◌, ℕ, ◌≤◌, ◌+◌, ◌^◌, List, [], length, Option, None, Some}
+use Rattle.std.specs.Prelude.{◌≡◌, ℕ, ◌≤◌, ◌+◌, ◌^◌, List, [], length, Option, None, Some, Result}
 use Rattle.std.specs.FinMap as map
+use Rattle.std.specs.declared.alloc.AllocError.{AllocError}
 use Rattle.hys_io.specs.Outside.{Named, IfHolds}
+use Rattle.hys_io.specs.declared.files.Files.{Ghosts as FilesOf}
 use Rattle.hys_number.specs.Number.{Number}
 use Rattle.hys_lin.specs.Operations.{first_lost}
 use Rattle.hys_lin.specs.declared.lost.Lost.{Lost}
@@ -28,7 +30,8 @@ use Rattle.hys_answer.specs.Shown.{answer_text}
 use Rattle.hys_answer.specs.Texts.{IsAnswerText, most_bytes, unexpanded}
 use Rattle.hys_plan.specs.Answer.{IsAnswered, IsNotSpent}
 use Rattle.hys_app.specs.Lines.{read_line, file_line, request_words, range_words, claim_line}
-use Rattle.hys_app.specs.Stages.{saying, putting, After, IsWhole}
+use Rattle.hys_app.specs.Ends.{Reaches}
+use Rattle.hys_app.specs.Stages.{saying, putting, After, ComesTo, IsWhole}
 use Rattle.hys_app.specs.Compiling.{AfterSource}
 use Rattle.hys_app.specs.declared.stage.Stage.{Stage}
 use Rattle.hys_app.specs.declared.stage.Stage.TheVariants.{End, Next}
@@ -58,6 +61,12 @@ pub record RequestFrom (s : System) (held : Option Named) (name : List ℕ) (r :
   pub text : List ℕ
   pub whole : IsWhole held name text
   pub stands : IsTextOf s text r
+
+-- a call that reads the request
+abbrev pub ReadsRequest : {A : Type 0} → FilesOf A → A → A → System → List ℕ → Result (Stage Request) AllocError →
+    Type 0
+ReadsRequest F files files' s name =
+    ComesTo F files files' (λ held. IsRequestEnd s held name) (λ held. RequestFrom s held name)
 
 -- ---- a text that was read
 pub data IsRequestTextEnd (s : System) (name text : List ℕ) : Outcome → Type 0 where
@@ -135,6 +144,11 @@ IsPlanned c r name target = AfterStacking c.system r name (IsPlanPut c r target)
 
 abbrev pub IsRequestOutcome : Compiled → Option Named → List ℕ → List ℕ → Outcome → Type 0
 IsRequestOutcome c held request target = AfterRequest c.system held request (λ r. IsPlanned c r request target)
+
+-- a call that reads the request and plans it, the source being compiled
+abbrev pub PlansRequest : {A : Type 0} → FilesOf A → A → A → Compiled → List ℕ → List ℕ → Result Outcome AllocError →
+    Type 0
+PlansRequest F files files' c request target = Reaches F files files' (λ held. IsRequestOutcome c held request target)
 
 abbrev pub IsPlanOutcome : Number → Option Named → List ℕ → List ℕ → List ℕ → Outcome → Type 0
 IsPlanOutcome tolerance held source request target =

@@ -1,7 +1,9 @@
 -- The stages of a command: each ends the command with its outcome, or goes on with what it has read.
-use Rattle.std.specs.Prelude.{◌≡◌, ℕ, ◌<◌, ◌≤◌, List, length, Option, None, Some}
+use Rattle.std.specs.Prelude.{◌≡◌, ℕ, ◌<◌, ◌≤◌, List, length, Option, None, Some, Result, IfOk}
+use Rattle.std.specs.declared.alloc.AllocError.{AllocError}
 use Rattle.hys_io.specs.Outside.{Named, IfHolds}
-use Rattle.hys_app.specs.Ends.{Failed, IsReached}
+use Rattle.hys_io.specs.declared.files.Files.{Ghosts as FilesOf}
+use Rattle.hys_app.specs.Ends.{IsReached}
 use Rattle.hys_app.specs.Lines.{read_line}
 use Rattle.hys_app.specs.declared.status.Status.{Status}
 use Rattle.hys_app.specs.declared.status.Status.TheVariants.{Read}
@@ -31,6 +33,12 @@ abbrev pub IsStage : {T : Type 0} → (Outcome → Type 0) → (T → Type 0) �
 IsStage Ends Is reads reads' (End o) = IsReached Ends o reads reads'
 IsStage Ends Is reads reads' (Next x) = Is x × (reads' ≡ reads)
 
+-- a call that reads files comes to a stage that is so for what they hold, unless memory is wanting
+abbrev pub ComesTo : {A T : Type 0} → FilesOf A → A → A → (Option Named → Outcome → Type 0) →
+    (Option Named → T → Type 0) → Result (Stage T) AllocError → Type 0
+ComesTo F files files' Ends Is answer =
+    IfOk answer (IsStage (Ends (F.held files)) (Is (F.held files)) (F.read_faults files) (F.read_faults files'))
+
 -- ---- files that are read
 -- where the files are told, the bytes are those of the file
 abbrev pub IsWhole : Option Named → List ℕ → List ℕ → Type 0
@@ -48,3 +56,9 @@ IsUnread name o = o ≡ saying Read (read_line name)
 abbrev pub AreBytes : Option Named → List ℕ → ℕ → Option (List ℕ) → Type 0
 AreBytes held name limit None = IsLong held name limit
 AreBytes held name limit (Some bytes) = IsWhole held name bytes × (length bytes ≤ limit)
+
+-- a call that reads the bytes of a file, where it isn't longer than its limit
+abbrev pub ReadsBytes : {A : Type 0} → FilesOf A → A → A → List ℕ → ℕ → Result (Stage (Option (List ℕ))) AllocError →
+    Type 0
+ReadsBytes F files files' name limit =
+    ComesTo F files files' (λ held. IsUnread name) (λ held. AreBytes held name limit)

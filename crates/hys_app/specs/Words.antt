@@ -1,11 +1,16 @@
 -- The forms of the words.
-use Rattle.std.specs.Prelude.{ℕ, suc, List, [], ◌∷◌, Option, None, Some, Result, Ok, Err, codes, bytes_eq, take, drop, pos, cond, if◌then◌else◌}
+use Rattle.std.specs.Prelude.{ℕ, suc, List, [], ◌∷◌, map, String, string_bytes, Option, None, Some, Result, Ok, Err, codes, bytes_eq, take, drop, pos, cond, if◌then◌else◌}
+use Rattle.std.specs.Global.{Global}
 use Rattle.std.specs.Ordering.{is_lt}
 use Rattle.hys_number.specs.Number.{Number}
 use Rattle.hys_number.specs.Ops.{◌/ₙ◌, int, whole}
 use Rattle.hys_frac.specs.Compare.{number_cmp}
 use Rattle.hys_frac.specs.Read.{reading}
 use Rattle.hys_frac.specs.declared.read.FracFault.{FracFault}
+
+-- the bytes of each word
+abbrev pub texts_of : List (String Global) → List (List ℕ)
+texts_of words = map string_bytes words
 
 -- ---- tolerances
 -- the tolerance of guards without one of their own, where the words have none
@@ -16,6 +21,10 @@ usual_tolerance = int (pos 1) /ₙ int (pos 1000)
 abbrev pub if_positive : Result Number FracFault → Option Number
 if_positive (Ok a) = cond (is_lt (number_cmp (whole 0) a)) (Some a) None
 if_positive (Err e) = None
+
+-- what follows `eps=` in a word that begins so
+abbrev pub text_of_tolerance : List ℕ → Option (List ℕ)
+text_of_tolerance word = if bytes_eq (take 4 word) (codes "eps=") then Some (drop 4 word) else None
 
 -- the tolerance of a word `eps=F`, where F is a number text
 abbrev pub tolerance_of : List ℕ → Option Number

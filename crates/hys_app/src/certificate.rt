@@ -1,6 +1,5 @@
 ghost use Rattle.std.specs.Prelude.{◌≡◌, ◌≤◌, IfOk};
-ghost use Rattle.hys_app.specs.Stages.{IsStage};
-ghost use Rattle.hys_app.specs.Checking.{AnswerFrom, IsAnswerEnd, IsAnswerStage};
+ghost use Rattle.hys_app.specs.Checking.{IsAnswerStage, ReadsAnswer};
 
 use crate::matrices::report_file;
 use crate::stage::{Stage, read_bytes, report_long};
@@ -27,8 +26,7 @@ pub fn read_certificate<F: Files>(
     name: &str,
     files: &mut F,
 ) -> Result<Stage<Answer>, AllocError>
-    ensures stage { IfOk result (IsStage (IsAnswerEnd (F.held files.old) name.now)
-        (AnswerFrom (F.held files.old) name.now) (F.read_faults files.old) (F.read_faults files.new)) }
+    ensures stage { ReadsAnswer F.Files files.old files.new name.now result }
     ensures reads { F.read_faults files.old ≤ F.read_faults files.new }
     ensures held { F.held files.new ≡ F.held files.old }
     ensures puts { F.put_faults files.new ≡ F.put_faults files.old }

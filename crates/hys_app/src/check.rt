@@ -4,8 +4,9 @@ ghost use Rattle.hys_sys.specs.System.{IsSystem};
 ghost use Rattle.hys_stack.specs.Requests.{IsRequestOf};
 ghost use Rattle.hys_tree.specs.Multiplied.{AreMultiplied};
 ghost use Rattle.hys_answer.specs.Reading.{most_places};
-ghost use Rattle.hys_app.specs.Ends.{IsReached};
-ghost use Rattle.hys_app.specs.Checking.{saying_verdict, verdict_status as status_of, IsAnswerOutcome, IsAskedOutcome, IsCheckOutcome, IsChecked, IsStackedOutcome};
+ghost use Rattle.hys_app.specs.Words.{check as checking};
+ghost use Rattle.hys_app.specs.Checking.{saying_verdict, verdict_status as status_of, ChecksAnswer, ChecksAsked, ChecksStacked, IsChecked};
+ghost use Rattle.hys_app.specs.Commands.{Obeys};
 
 use crate::certificate::read_certificate;
 use crate::check_lines::describe_verdict;
@@ -64,9 +65,7 @@ fn conclude_answer<F: Files>(
     files: &mut F,
 ) -> Result<Outcome, AllocError>
     requires { IsProblem problem.now }
-    ensures reached { IfOk result (λ o. IsReached
-        (IsAnswerOutcome (F.held files.old) answer.now problem.now) o
-        (F.read_faults files.old) (F.read_faults files.new)) }
+    ensures reached { ChecksAnswer F.Files files.old files.new answer.now problem.now result }
     ensures reads { F.read_faults files.old ≤ F.read_faults files.new }
     ensures held { F.held files.new ≡ F.held files.old }
     ensures puts { F.put_faults files.new ≡ F.put_faults files.old }
@@ -88,9 +87,7 @@ fn conclude_stacked<F: Files>(
 ) -> Result<Outcome, AllocError>
     requires system { IsSystem system.now }
     requires request { IsRequestOf system.now asked.now }
-    ensures reached { IfOk result (λ o. IsReached
-        (IsStackedOutcome system.now asked.now (F.held files.old) request.now answer.now) o
-        (F.read_faults files.old) (F.read_faults files.new)) }
+    ensures reached { ChecksStacked F.Files files.old files.new system.now asked.now request.now answer.now result }
     ensures reads { F.read_faults files.old ≤ F.read_faults files.new }
     ensures held { F.held files.new ≡ F.held files.old }
     ensures puts { F.put_faults files.new ≡ F.put_faults files.old }
@@ -110,9 +107,7 @@ fn conclude_asked<F: Files>(
     files: &mut F,
 ) -> Result<Outcome, AllocError>
     requires { IsSystem system.now }
-    ensures reached { IfOk result (λ o. IsReached
-        (IsAskedOutcome system.now (F.held files.old) request.now answer.now) o
-        (F.read_faults files.old) (F.read_faults files.new)) }
+    ensures reached { ChecksAsked F.Files files.old files.new system.now request.now answer.now result }
     ensures reads { F.read_faults files.old ≤ F.read_faults files.new }
     ensures held { F.held files.new ≡ F.held files.old }
     ensures puts { F.put_faults files.new ≡ F.put_faults files.old }
@@ -131,9 +126,7 @@ pub fn conclude_check<F: Files>(
     answer: &str,
     files: &mut F,
 ) -> Result<Outcome, AllocError>
-    ensures reached { IfOk result (λ o. IsReached
-        (IsCheckOutcome (F.held files.old) matrices.now request.now answer.now) o
-        (F.read_faults files.old) (F.read_faults files.new)) }
+    ensures reached { Obeys F.Files files.old files.new (checking matrices.now request.now answer.now) result }
     ensures reads { F.read_faults files.old ≤ F.read_faults files.new }
     ensures held { F.held files.new ≡ F.held files.old }
     ensures puts { F.put_faults files.new ≡ F.put_faults files.old }

@@ -1,7 +1,8 @@
 ghost use Rattle.std.specs.Prelude.{◌≡◌, ◌≤◌, IfOk};
 ghost use Rattle.hys_number.specs.Ops.{◌<ₙ◌, whole};
-ghost use Rattle.hys_app.specs.Ends.{IsReached};
-ghost use Rattle.hys_app.specs.Compiling.{IsCompileOutcome, IsPutFor};
+ghost use Rattle.hys_app.specs.Words.{compile};
+ghost use Rattle.hys_app.specs.Compiling.{IsPutFor};
+ghost use Rattle.hys_app.specs.Commands.{Obeys};
 
 use crate::lines::describe_system;
 use crate::outcome::{NewFile, Outcome};
@@ -38,9 +39,7 @@ pub fn conclude_compile<F: Files>(
     files: &mut F,
 ) -> Result<Outcome, AllocError>
     requires { whole 0 <ₙ tolerance }
-    ensures reached { IfOk result (λ o.
-        IsReached (IsCompileOutcome tolerance (F.held files.old) source.now target.now) o (F.read_faults files.old)
-        (F.read_faults files.new)) }
+    ensures reached { Obeys F.Files files.old files.new (compile source.now target.now tolerance) result }
     ensures reads { F.read_faults files.old ≤ F.read_faults files.new }
     ensures held { F.held files.new ≡ F.held files.old }
     ensures puts { F.put_faults files.new ≡ F.put_faults files.old }

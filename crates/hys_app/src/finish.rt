@@ -1,6 +1,6 @@
 ghost use Rattle.std.specs.Prelude.{◌≡◌, ◌≤◌, IsErrOf, OnOk};
 ghost use Rattle.hys_io.specs.Outside.{Rose};
-ghost use Rattle.hys_app.specs.Ends.{outside, IsCarriedOut, IsPut, IsTorn};
+ghost use Rattle.hys_app.specs.Ends.{Between, IsCarriedOut, IsPut, IsTorn};
 
 use crate::Status;
 use crate::outcome::{NewFile, Outcome};
@@ -26,8 +26,7 @@ fn put_file<F: Files>(file: &Option<NewFile>, files: &mut F) -> Result<(), Failu
 // Carries the outcome out: puts its file, and prints its line after that.
 #[tactic(auto, using(crate::proofs::Ends::by_unput, crate::proofs::Ends::by_torn, crate::proofs::Ends::by_cut, crate::proofs::Ends::by_short, crate::proofs::Ends::by_whole))]
 pub fn carry_out<F: Files, S: Sink>(outcome: &Outcome, files: &mut F, out: &mut S) -> Status
-    ensures carried { IsCarriedOut outcome.now result
-        (outside F.Files S.Sink files.old out.old) (outside F.Files S.Sink files.new out.new) }
+    ensures carried { Between F.Files S.Sink files.old out.old files.new out.new (IsCarriedOut outcome.now result) }
     ensures reads { F.read_faults files.new ≡ F.read_faults files.old }
 {
     match put_file(&outcome.file, files) {

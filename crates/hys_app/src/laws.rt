@@ -1,10 +1,8 @@
 //! What follows from how an outcome is carried out, whatever the command, as a call that does nothing.
 
 ghost use Rattle.std.specs.Prelude.{◌≡◌, ◌≢◌, ◌≤◌, ◌⊎◌};
-ghost use Rattle.hys_io.specs.Outside.{Rose, IfAppended};
-ghost use Rattle.hys_app.specs.Ends.{IsAfterReads, IsCarriedOut, IsPut, Outside};
-ghost use Rattle.hys_app.specs.declared.outcome.Outcome.{Outcome as Meant};
-ghost use Rattle.hys_app.specs.declared.status.Status.{Status as Ended};
+ghost use Rattle.hys_io.specs.Outside.{Rose};
+ghost use Rattle.hys_app.specs.Ends.{HasFailedRead, IfCarriedOut, IfEndsWith, IsDone, IsPut, IsUnprinted};
 ghost use Rattle.hys_app.specs.declared.status.Status.TheVariants.{Write, Memory};
 
 /// Where an outcome with a status other than 4 and 10 is carried out, and `old` and `new` are what
@@ -20,22 +18,16 @@ ghost use Rattle.hys_app.specs.declared.status.Status.TheVariants.{Write, Memory
 /// - After want of memory nothing is put, or the whole file (`memory`).
 #[tactic(auto, using(crate::proofs::Consequences::done, crate::proofs::Consequences::write, crate::proofs::Consequences::silent, crate::proofs::Consequences::standing, crate::proofs::Consequences::counted, crate::proofs::Consequences::failed_put, crate::proofs::Consequences::failed_read, crate::proofs::Consequences::memory))]
 pub fn carrying_out()
-    ensures done { (o : Meant) (result : Ended) (old new : Outside) → IsCarriedOut o result old new →
-        result ≢ Write → result ≢ Memory →
-        (result ≡ o.status) × IsPut o.file old.held new.held × IfAppended old.written new.written o.line }
-    ensures write { (o : Meant) (old new : Outside) → o.status ≢ Write → IsCarriedOut o Write old new →
-        (Rose old.put_faults new.put_faults ⊎ Rose old.faults new.faults) }
-    ensures silent { (o : Meant) (old new : Outside) → o.status ≢ Write → IsCarriedOut o Write old new →
-        (Rose old.faults new.faults ⊎ (new.written ≡ old.written)) }
-    ensures standing { (o : Meant) (old new : Outside) → o.status ≢ Write → IsCarriedOut o Write old new →
-        (Rose old.put_faults new.put_faults ⊎ IsPut o.file old.held new.held) }
-    ensures counted { (o : Meant) (result : Ended) (old new : Outside) → IsCarriedOut o result old new →
-        (old.put_faults ≤ new.put_faults) × (old.faults ≤ new.faults) }
-    ensures failed_put { (o : Meant) (result : Ended) (old new : Outside) → IsCarriedOut o result old new →
-        new.put_faults ≢ old.put_faults → (result ≡ Write) × (new.written ≡ old.written) }
-    ensures failed_read { (o : Meant) (result : Ended) (old new : Outside) →
-        IsAfterReads o old.read_faults new.read_faults →
-        IsCarriedOut o result old new → new.read_faults ≢ old.read_faults → new.held ≡ old.held }
-    ensures memory { (o : Meant) (old new : Outside) → o.status ≢ Memory → IsCarriedOut o Memory old new →
-        ((new.held ≡ old.held) ⊎ IsPut o.file old.held new.held) }
+    ensures done { IfCarriedOut (λ o result old new. result ≢ Write → result ≢ Memory → IsDone o result old new) }
+    ensures write { IfEndsWith Write (λ o old new.
+        Rose old.put_faults new.put_faults ⊎ Rose old.faults new.faults) }
+    ensures silent { IfEndsWith Write (λ o old new. Rose old.faults new.faults ⊎ (new.written ≡ old.written)) }
+    ensures standing { IfEndsWith Write (λ o old new.
+        Rose old.put_faults new.put_faults ⊎ IsPut o.file old.held new.held) }
+    ensures counted { IfCarriedOut (λ o result old new.
+        (old.put_faults ≤ new.put_faults) × (old.faults ≤ new.faults)) }
+    ensures failed_put { IfCarriedOut (λ o result old new.
+        new.put_faults ≢ old.put_faults → IsUnprinted result old new) }
+    ensures failed_read { IfCarriedOut (λ o result old new. HasFailedRead o old new → new.held ≡ old.held) }
+    ensures memory { IfEndsWith Memory (λ o old new. (new.held ≡ old.held) ⊎ IsPut o.file old.held new.held) }
 {}

@@ -1,8 +1,8 @@
 ghost use Rattle.std.specs.Prelude.{◌≡◌, ◌≢◌, ◌≤◌, IfOk};
 ghost use Rattle.hys_file.specs.declared.fault.FileFault.TheVariants.{Memory};
 ghost use Rattle.hys_app.specs.Lines.{file_line, file_words};
-ghost use Rattle.hys_app.specs.Stages.{saying, IsStage};
-ghost use Rattle.hys_app.specs.Migrating.{IsMatrixEnd, IsMatrixStage, SystemFrom};
+ghost use Rattle.hys_app.specs.Stages.{saying};
+ghost use Rattle.hys_app.specs.Migrating.{IsMatrixStage, ReadsMatrices};
 ghost use Rattle.hys_app.specs.declared.status.Status.TheVariants.{Input};
 
 use crate::file_lines::describe_file_fault;
@@ -49,8 +49,7 @@ pub fn read_matrices<F: Files>(
     name: &str,
     files: &mut F,
 ) -> Result<Stage<System>, AllocError>
-    ensures stage { IfOk result (IsStage (IsMatrixEnd (F.held files.old) name.now)
-        (SystemFrom (F.held files.old) name.now) (F.read_faults files.old) (F.read_faults files.new)) }
+    ensures stage { ReadsMatrices F.Files files.old files.new name.now result }
     ensures reads { F.read_faults files.old ≤ F.read_faults files.new }
     ensures held { F.held files.new ≡ F.held files.old }
     ensures puts { F.put_faults files.new ≡ F.put_faults files.old }

@@ -1,6 +1,7 @@
 ghost use Rattle.std.specs.Prelude.{◌≡◌, ◌≤◌, IfOk};
-ghost use Rattle.hys_app.specs.Ends.{IsReached};
-ghost use Rattle.hys_app.specs.Migrating.{IsMigrateOutcome, IsMigratedTo};
+ghost use Rattle.hys_app.specs.Words.{migrate};
+ghost use Rattle.hys_app.specs.Migrating.{IsMigratedTo};
+ghost use Rattle.hys_app.specs.Commands.{Obeys};
 
 use crate::lines::describe_migrated;
 use crate::matrices::read_matrices;
@@ -34,8 +35,7 @@ pub fn conclude_migrate<F: Files>(
     new: &str,
     files: &mut F,
 ) -> Result<Outcome, AllocError>
-    ensures reached { IfOk result (λ o. IsReached (IsMigrateOutcome (F.held files.old) old.now new.now) o
-        (F.read_faults files.old) (F.read_faults files.new)) }
+    ensures reached { Obeys F.Files files.old files.new (migrate old.now new.now) result }
     ensures reads { F.read_faults files.old ≤ F.read_faults files.new }
     ensures held { F.held files.new ≡ F.held files.old }
     ensures puts { F.put_faults files.new ≡ F.put_faults files.old }

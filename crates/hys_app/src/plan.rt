@@ -6,8 +6,9 @@ ghost use Rattle.hys_sys.specs.System.{IsSystem};
 ghost use Rattle.hys_stack.specs.Requests.{IsRequestOf};
 ghost use Rattle.hys_answer.specs.Shown.{answer_text};
 ghost use Rattle.hys_answer.specs.Texts.{ReadsAs};
-ghost use Rattle.hys_app.specs.Ends.{IsReached};
-ghost use Rattle.hys_app.specs.Planning.{answering, claim_status as status_of, IsAnswerPut, IsPlanOutcome, IsPlanned, IsPlannedFor, IsRequestOutcome};
+ghost use Rattle.hys_app.specs.Words.{plan as planning};
+ghost use Rattle.hys_app.specs.Planning.{answering, claim_status as status_of, IsAnswerPut, IsPlanned, IsPlannedFor, PlansRequest};
+ghost use Rattle.hys_app.specs.Commands.{Obeys};
 
 use crate::outcome::{NewFile, Outcome};
 use crate::plan_lines::describe_claim;
@@ -125,9 +126,7 @@ fn conclude_request<F: Files>(
     files: &mut F,
 ) -> Result<Outcome, AllocError>
     requires { IsSystem compiled.now.system }
-    ensures reached { IfOk result (λ o. IsReached
-        (IsRequestOutcome compiled.now (F.held files.old) request.now target.now) o
-        (F.read_faults files.old) (F.read_faults files.new)) }
+    ensures reached { PlansRequest F.Files files.old files.new compiled.now request.now target.now result }
     ensures reads { F.read_faults files.old ≤ F.read_faults files.new }
     ensures held { F.held files.new ≡ F.held files.old }
     ensures puts { F.put_faults files.new ≡ F.put_faults files.old }
@@ -148,9 +147,7 @@ pub fn conclude_plan<F: Files>(
     files: &mut F,
 ) -> Result<Outcome, AllocError>
     requires { whole 0 <ₙ tolerance }
-    ensures reached { IfOk result (λ o. IsReached
-        (IsPlanOutcome tolerance (F.held files.old) source.now request.now target.now) o
-        (F.read_faults files.old) (F.read_faults files.new)) }
+    ensures reached { Obeys F.Files files.old files.new (planning source.now request.now target.now tolerance) result }
     ensures reads { F.read_faults files.old ≤ F.read_faults files.new }
     ensures held { F.held files.new ≡ F.held files.old }
     ensures puts { F.put_faults files.new ≡ F.put_faults files.old }

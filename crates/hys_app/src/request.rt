@@ -3,8 +3,8 @@ ghost use Rattle.hys_sys.specs.System.{IsSystem};
 ghost use Rattle.hys_stack.specs.Requests.{IsRequestOf};
 ghost use Rattle.hys_stack.specs.declared.fault.RequestFault.TheVariants.{Memory};
 ghost use Rattle.hys_app.specs.Lines.{file_line, range_words, request_words};
-ghost use Rattle.hys_app.specs.Stages.{saying, IsStage};
-ghost use Rattle.hys_app.specs.Planning.{IsRequestEnd, IsRequestStage, IsStackStage, RequestFrom};
+ghost use Rattle.hys_app.specs.Stages.{saying};
+ghost use Rattle.hys_app.specs.Planning.{IsRequestStage, IsStackStage, ReadsRequest};
 ghost use Rattle.hys_app.specs.declared.status.Status.TheVariants.{Input};
 
 use crate::file_lines::describe_file;
@@ -59,8 +59,7 @@ pub fn read_plan<F: Files>(
     name: &str,
     files: &mut F,
 ) -> Result<Stage<Request>, AllocError>
-    ensures stage { IfOk result (IsStage (IsRequestEnd system.now (F.held files.old) name.now)
-        (RequestFrom system.now (F.held files.old) name.now) (F.read_faults files.old) (F.read_faults files.new)) }
+    ensures stage { ReadsRequest F.Files files.old files.new system.now name.now result }
     ensures reads { F.read_faults files.old ≤ F.read_faults files.new }
     ensures held { F.held files.new ≡ F.held files.old }
     ensures puts { F.put_faults files.new ≡ F.put_faults files.old }

@@ -3,11 +3,9 @@ ghost use Rattle.hys_number.specs.Ops.{◌<ₙ◌, whole};
 ghost use Rattle.hys_prog.specs.Programs.{IsProgram};
 ghost use Rattle.hys_prog.specs.Orders.{IsOrder};
 ghost use Rattle.hys_sim.specs.declared.fault.SimFault.TheVariants.{Memory};
-ghost use Rattle.hys_app.specs.Ends.{IsReached};
-ghost use Rattle.hys_app.specs.Lines.{faulty_table, file_line, run_line, table_words};
-ghost use Rattle.hys_app.specs.Stages.{putting, saying};
-ghost use Rattle.hys_app.specs.Simulating.{run_status as status_of, IsInputsOutcome, IsRunOutcome, IsSimOutcome, IsTablesOutcome};
-ghost use Rattle.hys_app.specs.declared.status.Status.TheVariants.{Input};
+ghost use Rattle.hys_app.specs.Words.{sim};
+ghost use Rattle.hys_app.specs.Simulating.{putting_run, refusing_table, run_status as status_of, IsRunOutcome, RunsInputs, RunsTables};
+ghost use Rattle.hys_app.specs.Commands.{Obeys};
 
 use crate::file_lines::describe_file;
 use crate::outcome::{NewFile, Outcome};
@@ -31,8 +29,7 @@ fn report_tables(
     inputs: &str,
     fault: &SimFault,
 ) -> Result<Outcome, AllocError>
-    ensures said { IfOk result (λ o.
-        o ≡ saying Input (file_line (faulty_table fault.now start.now inputs.now) (table_words fault.now))) }
+    ensures said { IfOk result (λ o. o ≡ refusing_table start.now inputs.now fault.now) }
     ensures known { IfOk result (λ o. fault.now ≢ Memory) }
 {
     if matches!(fault, SimFault::Memory) {
@@ -66,8 +63,7 @@ fn report_run(
     run: Simulated,
     target: &str,
 ) -> Result<Outcome, AllocError>
-    ensures { IfOk result (λ o.
-        o ≡ putting target.now run.table (status_of run.stop) (run_line program.now run.steps run.stop)) }
+    ensures { IfOk result (λ o. o ≡ putting_run target.now program.now run) }
 {
     let line = List::of(describe_run(alloc, program, run.steps, run.stop)?.into_bytes());
     let name = Text::of(String::from_str(alloc, target)?);
@@ -114,9 +110,8 @@ fn conclude_inputs<F: Files>(
 ) -> Result<Outcome, AllocError>
     requires program { IsProgram compiled.now.program }
     requires order { IsOrder compiled.now.program compiled.now.order }
-    ensures reached { IfOk result (λ o. IsReached
-        (IsInputsOutcome (F.held files.old) compiled.now start.now inputs.now target.now first.now) o
-        (F.read_faults files.old) (F.read_faults files.new)) }
+    ensures reached { RunsInputs F.Files files.old files.new
+        compiled.now start.now inputs.now target.now first.now result }
     ensures reads { F.read_faults files.old ≤ F.read_faults files.new }
     ensures held { F.held files.new ≡ F.held files.old }
     ensures puts { F.put_faults files.new ≡ F.put_faults files.old }
@@ -148,9 +143,7 @@ fn conclude_tables<F: Files>(
 ) -> Result<Outcome, AllocError>
     requires program { IsProgram compiled.now.program }
     requires order { IsOrder compiled.now.program compiled.now.order }
-    ensures reached { IfOk result (λ o. IsReached
-        (IsTablesOutcome (F.held files.old) compiled.now start.now inputs.now target.now) o
-        (F.read_faults files.old) (F.read_faults files.new)) }
+    ensures reached { RunsTables F.Files files.old files.new compiled.now start.now inputs.now target.now result }
     ensures reads { F.read_faults files.old ≤ F.read_faults files.new }
     ensures held { F.held files.new ≡ F.held files.old }
     ensures puts { F.put_faults files.new ≡ F.put_faults files.old }
@@ -174,9 +167,8 @@ pub fn conclude_sim<F: Files>(
     files: &mut F,
 ) -> Result<Outcome, AllocError>
     requires { whole 0 <ₙ tolerance }
-    ensures reached { IfOk result (λ o. IsReached
-        (IsSimOutcome tolerance (F.held files.old) source.now start.now inputs.now target.now) o
-        (F.read_faults files.old) (F.read_faults files.new)) }
+    ensures reached { Obeys F.Files files.old files.new
+        (sim source.now start.now inputs.now target.now tolerance) result }
     ensures reads { F.read_faults files.old ≤ F.read_faults files.new }
     ensures held { F.held files.new ≡ F.held files.old }
     ensures puts { F.put_faults files.new ≡ F.put_faults files.old }

@@ -3,8 +3,8 @@ ghost use Rattle.hys_number.specs.Ops.{◌<ₙ◌, whole};
 ghost use Rattle.hys_compile.specs.Faults.{no_memory};
 ghost use Rattle.hys_compile.specs.Text.{most_bytes};
 ghost use Rattle.hys_app.specs.Lines.{refused_line};
-ghost use Rattle.hys_app.specs.Stages.{saying, IsStage};
-ghost use Rattle.hys_app.specs.Compiling.{CompiledFrom, IsSourceEnd, IsTextStage};
+ghost use Rattle.hys_app.specs.Stages.{saying};
+ghost use Rattle.hys_app.specs.Compiling.{IsTextStage, ReadsSource};
 ghost use Rattle.hys_app.specs.declared.status.Status.TheVariants.{Source};
 
 use crate::lines::describe_refusal;
@@ -54,8 +54,7 @@ pub fn read_source<F: Files>(
     files: &mut F,
 ) -> Result<Stage<Compiled>, AllocError>
     requires { whole 0 <ₙ tolerance }
-    ensures stage { IfOk result (IsStage (IsSourceEnd tolerance (F.held files.old) source.now)
-        (CompiledFrom tolerance (F.held files.old) source.now) (F.read_faults files.old) (F.read_faults files.new)) }
+    ensures stage { ReadsSource F.Files files.old files.new tolerance source.now result }
     ensures reads { F.read_faults files.old ≤ F.read_faults files.new }
     ensures held { F.held files.new ≡ F.held files.old }
     ensures puts { F.put_faults files.new ≡ F.put_faults files.old }

@@ -1,6 +1,6 @@
 ghost use Rattle.std.specs.Prelude.{◌≡◌, ◌≤◌, codes, IfOk};
 ghost use Rattle.hys_app.specs.Lines.{file_line};
-ghost use Rattle.hys_app.specs.Stages.{saying, AreBytes, IsStage, IsUnread};
+ghost use Rattle.hys_app.specs.Stages.{saying, IsUnread, ReadsBytes};
 ghost use Rattle.hys_app.specs.declared.status.Status.TheVariants.{Input};
 
 use crate::file_lines::describe_file;
@@ -49,8 +49,7 @@ pub fn read_bytes<F: Files>(
     limit: u64,
     files: &mut F,
 ) -> Result<Stage<Option<List<u8>>>, AllocError>
-    ensures stage { IfOk result (IsStage (IsUnread name.now) (AreBytes (F.held files.old) name.now limit)
-        (F.read_faults files.old) (F.read_faults files.new)) }
+    ensures stage { ReadsBytes F.Files files.old files.new name.now limit result }
     ensures reads { F.read_faults files.old ≤ F.read_faults files.new }
     ensures held { F.held files.new ≡ F.held files.old }
     ensures puts { F.put_faults files.new ≡ F.put_faults files.old }

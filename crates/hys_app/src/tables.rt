@@ -1,6 +1,5 @@
-ghost use Rattle.std.specs.Prelude.{◌≡◌, ◌≤◌, IfOk};
-ghost use Rattle.hys_app.specs.Stages.{IsStage};
-ghost use Rattle.hys_app.specs.Simulating.{IsTable, IsTableEnd};
+ghost use Rattle.std.specs.Prelude.{◌≡◌, ◌≤◌};
+ghost use Rattle.hys_app.specs.Simulating.{ReadsTable};
 
 use crate::stage::{Stage, read_bytes, report_long};
 use hys_base::List;
@@ -15,8 +14,7 @@ pub fn read_table<F: Files>(
     name: &str,
     files: &mut F,
 ) -> Result<Stage<List<u8>>, AllocError>
-    ensures stage { IfOk result (IsStage (IsTableEnd (F.held files.old) name.now) (IsTable (F.held files.old) name.now)
-        (F.read_faults files.old) (F.read_faults files.new)) }
+    ensures stage { ReadsTable F.Files files.old files.new name.now result }
     ensures reads { F.read_faults files.old ≤ F.read_faults files.new }
     ensures held { F.held files.new ≡ F.held files.old }
     ensures puts { F.put_faults files.new ≡ F.put_faults files.old }

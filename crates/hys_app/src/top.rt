@@ -1,7 +1,7 @@
-ghost use Rattle.std.specs.Prelude.{◌≡◌, ◌≤◌, None, map, string_bytes, IfOk};
-ghost use Rattle.hys_app.specs.Words.{form_of, from_check, from_demo, from_plan, from_sim, migrate_form as migrating};
-ghost use Rattle.hys_app.specs.Ends.{outside, Ends, IsReached};
-ghost use Rattle.hys_app.specs.Commands.{IsOutcomeOf, IsUsage};
+ghost use Rattle.std.specs.Prelude.{◌≡◌, ◌≤◌, None, IfOk};
+ghost use Rattle.hys_app.specs.Words.{form_of, from_check, from_demo, from_plan, from_sim, migrate_form as migrating, texts_of};
+ghost use Rattle.hys_app.specs.Ends.{Between};
+ghost use Rattle.hys_app.specs.Commands.{Concludes, EndsFor, IsUsage};
 
 use crate::check::conclude_check;
 use crate::compile::conclude_compile;
@@ -35,10 +35,8 @@ fn conclude_from_migrate<F: Files>(
     words: &[String],
     files: &mut F,
 ) -> Result<Outcome, AllocError>
-    ensures reached { IfOk result (λ o.
-        IsReached (IsOutcomeOf (F.held files.old) (migrating (map string_bytes words.now))) o
-        (F.read_faults files.old) (F.read_faults files.new)) }
-    ensures unread { migrating (map string_bytes words.now) ≡ None → F.read_faults files.new ≡ F.read_faults files.old }
+    ensures reached { Concludes F.Files files.old files.new (migrating (texts_of words.now)) result }
+    ensures unread { migrating (texts_of words.now) ≡ None → F.read_faults files.new ≡ F.read_faults files.old }
     ensures reads { F.read_faults files.old ≤ F.read_faults files.new }
     ensures held { F.held files.new ≡ F.held files.old }
     ensures puts { F.put_faults files.new ≡ F.put_faults files.old }
@@ -55,10 +53,8 @@ fn conclude_from_demo<F: Files>(
     words: &[String],
     files: &mut F,
 ) -> Result<Outcome, AllocError>
-    ensures reached { IfOk result (λ o.
-        IsReached (IsOutcomeOf (F.held files.old) (from_demo (map string_bytes words.now))) o
-        (F.read_faults files.old) (F.read_faults files.new)) }
-    ensures unread { from_demo (map string_bytes words.now) ≡ None → F.read_faults files.new ≡ F.read_faults files.old }
+    ensures reached { Concludes F.Files files.old files.new (from_demo (texts_of words.now)) result }
+    ensures unread { from_demo (texts_of words.now) ≡ None → F.read_faults files.new ≡ F.read_faults files.old }
     ensures reads { F.read_faults files.old ≤ F.read_faults files.new }
     ensures held { F.held files.new ≡ F.held files.old }
     ensures puts { F.put_faults files.new ≡ F.put_faults files.old }
@@ -75,10 +71,8 @@ fn conclude_from_check<F: Files>(
     words: &[String],
     files: &mut F,
 ) -> Result<Outcome, AllocError>
-    ensures reached { IfOk result (λ o.
-        IsReached (IsOutcomeOf (F.held files.old) (from_check (map string_bytes words.now))) o
-        (F.read_faults files.old) (F.read_faults files.new)) }
-    ensures unread { from_check (map string_bytes words.now) ≡ None → F.read_faults files.new ≡ F.read_faults files.old }
+    ensures reached { Concludes F.Files files.old files.new (from_check (texts_of words.now)) result }
+    ensures unread { from_check (texts_of words.now) ≡ None → F.read_faults files.new ≡ F.read_faults files.old }
     ensures reads { F.read_faults files.old ≤ F.read_faults files.new }
     ensures held { F.held files.new ≡ F.held files.old }
     ensures puts { F.put_faults files.new ≡ F.put_faults files.old }
@@ -97,10 +91,8 @@ fn conclude_from_plan<F: Files>(
     words: &[String],
     files: &mut F,
 ) -> Result<Outcome, AllocError>
-    ensures reached { IfOk result (λ o.
-        IsReached (IsOutcomeOf (F.held files.old) (from_plan (map string_bytes words.now))) o
-        (F.read_faults files.old) (F.read_faults files.new)) }
-    ensures unread { from_plan (map string_bytes words.now) ≡ None → F.read_faults files.new ≡ F.read_faults files.old }
+    ensures reached { Concludes F.Files files.old files.new (from_plan (texts_of words.now)) result }
+    ensures unread { from_plan (texts_of words.now) ≡ None → F.read_faults files.new ≡ F.read_faults files.old }
     ensures reads { F.read_faults files.old ≤ F.read_faults files.new }
     ensures held { F.held files.new ≡ F.held files.old }
     ensures puts { F.put_faults files.new ≡ F.put_faults files.old }
@@ -119,10 +111,8 @@ fn conclude_from_sim<F: Files>(
     words: &[String],
     files: &mut F,
 ) -> Result<Outcome, AllocError>
-    ensures reached { IfOk result (λ o.
-        IsReached (IsOutcomeOf (F.held files.old) (from_sim (map string_bytes words.now))) o
-        (F.read_faults files.old) (F.read_faults files.new)) }
-    ensures unread { from_sim (map string_bytes words.now) ≡ None → F.read_faults files.new ≡ F.read_faults files.old }
+    ensures reached { Concludes F.Files files.old files.new (from_sim (texts_of words.now)) result }
+    ensures unread { from_sim (texts_of words.now) ≡ None → F.read_faults files.new ≡ F.read_faults files.old }
     ensures reads { F.read_faults files.old ≤ F.read_faults files.new }
     ensures held { F.held files.new ≡ F.held files.old }
     ensures puts { F.put_faults files.new ≡ F.put_faults files.old }
@@ -137,10 +127,8 @@ fn conclude_from_sim<F: Files>(
 
 // What the words ask for: reads and judges the files of their command.
 fn conclude<F: Files>(alloc: Global, words: &[String], files: &mut F) -> Result<Outcome, AllocError>
-    ensures reached { IfOk result (λ o.
-        IsReached (IsOutcomeOf (F.held files.old) (form_of (map string_bytes words.now))) o
-        (F.read_faults files.old) (F.read_faults files.new)) }
-    ensures unread { form_of (map string_bytes words.now) ≡ None → F.read_faults files.new ≡ F.read_faults files.old }
+    ensures reached { Concludes F.Files files.old files.new (form_of (texts_of words.now)) result }
+    ensures unread { form_of (texts_of words.now) ≡ None → F.read_faults files.new ≡ F.read_faults files.old }
     ensures reads { F.read_faults files.old ≤ F.read_faults files.new }
     ensures held { F.held files.new ≡ F.held files.old }
     ensures puts { F.put_faults files.new ≡ F.put_faults files.old }
@@ -181,10 +169,9 @@ pub fn run<F: Files, S: Sink>(
     out: &mut S,
 ) -> Status
     // A run ends by carrying out a lawful outcome of the command that the words ask for.
-    ensures ends { Ends (IsOutcomeOf (F.held files.old) (form_of (map string_bytes words.now.items))) result
-        (outside F.Files S.Sink files.old out.old) (outside F.Files S.Sink files.new out.new) }
+    ensures ends { Between F.Files S.Sink files.old out.old files.new out.new (EndsFor words.now.items result) }
     // Where they match no form nothing is read.
-    ensures unread { form_of (map string_bytes words.now.items) ≡ None →
+    ensures unread { form_of (texts_of words.now.items) ≡ None →
         F.read_faults files.new ≡ F.read_faults files.old }
 {
     match conclude(alloc, words, files) {

@@ -1,8 +1,8 @@
-ghost use Rattle.std.specs.Prelude.{◌≡◌, ◌≤◌, codes, map, string_bytes, option_map, bytes_eq, take, drop, Some, None, if◌then◌else◌, IfSome};
+ghost use Rattle.std.specs.Prelude.{◌≡◌, ◌≤◌, option_map, IfSome};
 ghost use Rattle.hys_number.specs.Ops.{◌<ₙ◌, whole};
 ghost use Rattle.std.specs.Ordering.{is_lt};
 ghost use Rattle.hys_frac.specs.Compare.{number_cmp};
-ghost use Rattle.hys_app.specs.Words.{check, compile, demo, migrate, plan, sim, tanks_of, tolerance_of, usual_tolerance as usual};
+ghost use Rattle.hys_app.specs.Words.{check, compile, demo, migrate, plan, sim, tanks_of, text_of_tolerance, texts_of, tolerance_of, usual_tolerance as usual};
 ghost use Rattle.hys_app.specs.Words.{check_form as checking, compile_form as compiling, demo_form as demonstrating, migrate_form as migrating, plan_form as planning, sim_form as simulating};
 
 use hys_frac::Frac;
@@ -27,8 +27,7 @@ fn is_positive(number: Frac) -> bool
 
 // What follows `eps=`.
 fn text_of(word: &[u8]) -> Option<&[u8]>
-    ensures { option_map (λ t. t.now) result ≡
-        if bytes_eq (take 4 word.now) (codes "eps=") then Some (drop 4 word.now) else None }
+    ensures { option_map (λ t. t.now) result ≡ text_of_tolerance word.now }
 {
     match word {
         [b'e', b'p', b's', b'=', text @ ..] => Some(text),
@@ -59,7 +58,7 @@ fn read_tolerance(word: &str) -> Option<Frac>
 
 // The source, the target and the tolerance of `compile SRC MLD` and of `compile SRC MLD eps=F`.
 pub fn compile_form(words: &[String]) -> Option<(&str, &str, Frac)>
-    ensures form { option_map (λ p. compile p.0.now p.1.now p.2) result ≡ compiling (map string_bytes words.now) }
+    ensures form { option_map (λ p. compile p.0.now p.1.now p.2) result ≡ compiling (texts_of words.now) }
     ensures above { IfSome result (λ p. whole 0 <ₙ p.2) }
 {
     match words {
@@ -88,7 +87,7 @@ pub fn compile_form(words: &[String]) -> Option<(&str, &str, Frac)>
 // `sim SRC START INPUTS OUT eps=F`.
 pub fn sim_form(words: &[String]) -> Option<(&str, &str, &str, &str, Frac)>
     ensures form { option_map (λ p. sim p.0.now p.1.now p.2.now p.3.now p.4) result ≡
-        simulating (map string_bytes words.now) }
+        simulating (texts_of words.now) }
     ensures above { IfSome result (λ p. whole 0 <ₙ p.4) }
 {
     match words {
@@ -129,7 +128,7 @@ pub fn sim_form(words: &[String]) -> Option<(&str, &str, &str, &str, Frac)>
 // `plan SRC REQ ANS eps=F`.
 pub fn plan_form(words: &[String]) -> Option<(&str, &str, &str, Frac)>
     ensures form { option_map (λ p. plan p.0.now p.1.now p.2.now p.3) result ≡
-        planning (map string_bytes words.now) }
+        planning (texts_of words.now) }
     ensures above { IfSome result (λ p. whole 0 <ₙ p.3) }
 {
     match words {
@@ -166,7 +165,7 @@ pub fn plan_form(words: &[String]) -> Option<(&str, &str, &str, Frac)>
 
 // The matrix text, the request and the answer of `check MLD REQ ANS`.
 pub fn check_form(words: &[String]) -> Option<(&str, &str, &str)>
-    ensures form { option_map (λ p. check p.0.now p.1.now p.2.now) result ≡ checking (map string_bytes words.now) }
+    ensures form { option_map (λ p. check p.0.now p.1.now p.2.now) result ≡ checking (texts_of words.now) }
 {
     match words {
         [command, matrices, request, answer] => {
@@ -212,7 +211,7 @@ fn read_tanks(word: &str) -> Option<u32>
 
 // The number of tanks of `demo K`.
 pub fn demo_form(words: &[String]) -> Option<u32>
-    ensures form { option_map (λ k. demo k) result ≡ demonstrating (map string_bytes words.now) }
+    ensures form { option_map (λ k. demo k) result ≡ demonstrating (texts_of words.now) }
     ensures few { IfSome result (λ k. (1 ≤ k) × (k ≤ 20)) }
 {
     match words {
@@ -229,7 +228,7 @@ pub fn demo_form(words: &[String]) -> Option<u32>
 
 // The old and the new name of `migrate OLD NEW`.
 pub fn migrate_form(words: &[String]) -> Option<(&str, &str)>
-    ensures form { option_map (λ p. migrate p.0.now p.1.now) result ≡ migrating (map string_bytes words.now) }
+    ensures form { option_map (λ p. migrate p.0.now p.1.now) result ≡ migrating (texts_of words.now) }
 {
     match words {
         [command, old, new] => {

@@ -1,11 +1,9 @@
 //! The program: the system's files, the standard output, and the words after the program's name.
 #![tactic(auto)]
 
-ghost use Rattle.std.specs.Prelude.{◌≡◌, map, string_bytes, IfOk, OnErr};
-ghost use Rattle.hys_app.specs.Statuses.{number_of};
-ghost use Rattle.hys_app.specs.Ends.{outside, Ends};
-ghost use Rattle.hys_app.specs.Commands.{IsOutcomeOf};
-ghost use Rattle.hys_app.specs.Words.{form_of};
+ghost use Rattle.std.specs.Prelude.{◌≡◌, IfOk, OnErr};
+ghost use Rattle.hys_app.specs.Ends.{Between};
+ghost use Rattle.hys_app.specs.Commands.{ExitsFor};
 
 use hys_app::{Status, run};
 use hys_io::{DiskFiles, Files, Sink, StdSink};
@@ -34,9 +32,8 @@ fn end<F: Files, S: Sink>(
     out: &mut S,
 ) -> u8
     ensures memory { OnErr words (result ≡ 10) }
-    ensures ends { IfOk words (λ w. (status : Status) × (result ≡ number_of status)
-        × Ends (IsOutcomeOf (F.held files.old) (form_of (map string_bytes w.items))) status
-        (outside F.Files S.Sink files.old out.old) (outside F.Files S.Sink files.new out.new)) }
+    ensures ends { IfOk words (λ w.
+        Between F.Files S.Sink files.old out.old files.new out.new (ExitsFor w.items result)) }
 {
     match words {
         Ok(words) => run(alloc, &words, files, out).number(),
