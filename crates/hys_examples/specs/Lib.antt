@@ -6,4 +6,5 @@ pub mod Systems
 pub mod Ranges
 pub mod RowNumbers
 pub mod Fitting
+pub mod Worked
 pub mod Last

@@ -14,6 +14,7 @@ ghost use Rattle.hys_meaning.specs.Accepted.{Accepted};
 ghost use Rattle.hys_examples.specs.Trees.{both, negated, number};
 ghost use Rattle.hys_examples.specs.Sources.{casting, choosing, boxed_by, cancelled, kept, too_early, bounded_later, tolerance, n_over};
 ghost use Rattle.hys_examples.specs.OneStep.{OneStep};
+ghost use Rattle.hys_examples.specs.Worked.{tenths};
 
 /// A cast is 0 or 1. With `MUST { 3*(REAL a) + 2*(REAL b) <= 4; }` not both may be on, and nothing
 /// lies between off and on.
@@ -26,8 +27,7 @@ pub fn casts()
 
 /// The ends of boxes are exact.
 pub fn numbers()
-    ensures sum { map (λ n. n.high) (names (boxed_by (both binary.Add (number (codes "0.1")) (number
-        (codes "0.2"))))) ≡ n_over 3 10 ∷ [] }
+    ensures sum { map (λ n. n.high) (names (boxed_by tenths)) ≡ n_over 3 10 ∷ [] }
     ensures small { map (λ n. n.high) (names (boxed_by (number (codes "1e-18")))) ≡ n_over 1 1000000000000000000 ∷ [] }
 {}
 

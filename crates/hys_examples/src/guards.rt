@@ -1,12 +1,11 @@
 //! A guard at its edge, in its gap and at the tolerance.
 
-ghost use Rattle.std.specs.Prelude.{◌≡◌, [], ◌∷◌, codes, List};
-ghost use Rattle.hys_number.specs.Number.{Number};
+ghost use Rattle.std.specs.Prelude.{[], ◌∷◌, List};
 ghost use Rattle.hys_number.specs.Ops.{whole};
-ghost use Rattle.hys_meaning.specs.Values.{Assignment};
-ghost use Rattle.hys_meaning.specs.Steps.{Stuck, Legal};
+ghost use Rattle.hys_meaning.specs.Steps.{Stuck};
 ghost use Rattle.hys_examples.specs.Sources.{guarded, always, tolerance, n_over};
 ghost use Rattle.hys_examples.specs.OneStep.{OneStep};
+ghost use Rattle.hys_examples.specs.Worked.{IsOnInEachStep};
 
 /// The guard `d = x >= 5` is true at 5, and no step is legal a little below.
 pub fn at_the_edge()
@@ -18,6 +17,5 @@ pub fn at_the_edge()
 /// The guard `d = x <= 20` is true wherever x lies in its box.
 pub fn always_on()
     ensures three { OneStep tolerance always (whole 3 ∷ []) [] (whole 1 ∷ []) (whole 3 ∷ []) [] }
-    ensures everywhere { (a : Number) (w : Assignment) (x' y : List Number) →
-        Legal tolerance always (a ∷ []) [] w x' y → w (codes "d") ≡ whole 1 }
+    ensures everywhere { IsOnInEachStep always }
 {}

@@ -7,6 +7,7 @@ ghost use Rattle.hys_meaning.specs.Unfolded.{unfolded};
 ghost use Rattle.hys_examples.specs.Sources.{tolerance, n_over};
 ghost use Rattle.hys_examples.specs.Last.{own, inner, LastForm};
 ghost use Rattle.hys_examples.specs.OneStep.{OneStep};
+ghost use Rattle.hys_examples.specs.Worked.{both_on};
 
 /// How guards are named, what they weigh, and which tolerances and circles there are.
 pub fn named_guards()
@@ -23,7 +24,6 @@ pub fn own_tolerance()
 /// With `d = a & x <= 4` and a true, at 4 both d and the unnamed guard are true, and no step is legal
 /// a little above.
 pub fn unnamed_guard()
-    ensures edge { OneStep tolerance (unfolded inner) (whole 4 ∷ []) (whole 1 ∷ []) (whole 1 ∷ whole 1 ∷
-        []) (whole 4 ∷ []) [] }
+    ensures edge { OneStep tolerance (unfolded inner) (whole 4 ∷ []) (whole 1 ∷ []) both_on (whole 4 ∷ []) [] }
     ensures gap { Stuck tolerance (unfolded inner) (n_over 8001 2000 ∷ []) (whole 1 ∷ []) }
 {}

@@ -2,6 +2,7 @@
 
 ghost use Rattle.std.specs.Prelude.{◌≡◌, [], ◌∷◌, codes, List, true};
 ghost use Rattle.hys_meaning.specs.Typed.{Typed, Bounded, DeclaredOnce, DefinedOnce, HaveValues};
+ghost use Rattle.hys_examples.specs.Worked.{KeepsOtherRules, one_is_one, one_is_more};
 ghost use Rattle.hys_meaning.specs.Circular.{Circular};
 ghost use Rattle.hys_meaning.specs.Accepted.{Accepted, WithinLimits};
 ghost use Rattle.hys_examples.specs.Sources.{guarded, always, led_round, led_to_itself, boxed, two_names, by_zero, of_two_kinds, doubled, declared_twice, without_value, without_box, with_items, shown, settled};
@@ -15,8 +16,7 @@ pub fn cycles()
     ensures two { Circular led_round (codes "d1" ∷ codes "d2" ∷ []) }
     ensures one { Circular led_to_itself (codes "d" ∷ []) }
     ensures refused { ¬ (Accepted led_round) × ¬ (Accepted led_to_itself) }
-    ensures typed { Typed led_round × Bounded led_round × DeclaredOnce led_round × HaveValues led_round ×
-        DefinedOnce led_round × WithinLimits led_round }
+    ensures typed { KeepsOtherRules led_round }
 {}
 
 /// A box whose low end is above its high end, and one of a single number.
@@ -55,12 +55,9 @@ pub fn places()
     ensures section { ¬ (Typed (with_items (item section.Linear (codes "d") (number (codes "1")) ∷ shown ∷ []))) }
     ensures unknown { ¬ (Typed (with_items (item section.Logic (codes "e") (truth true) ∷ settled ∷ shown ∷ []))) }
     ensures output { ¬ (Typed (with_items (settled ∷ item section.OutputItem (codes "y") (name (codes "y")) ∷ []))) }
-    ensures equation { ¬ (Typed (with_items (item section.Ad (codes "d") (both binary.Equal (number (codes "1"))
-        (number (codes "1"))) ∷ shown ∷ []))) }
-    ensures within { ¬ (Typed (with_items (item section.Logic (codes "d") (negated (both binary.Most (number
-        (codes "1")) (number (codes "1")))) ∷ shown ∷ []))) }
-    ensures top { Typed (with_items (settled ∷ shown ∷
-        must (both binary.Equal (number (codes "1")) (number (codes "1"))) ∷ [])) }
+    ensures equation { ¬ (Typed (with_items (item section.Ad (codes "d") one_is_one ∷ shown ∷ []))) }
+    ensures within { ¬ (Typed (with_items (item section.Logic (codes "d") one_is_more ∷ shown ∷ []))) }
+    ensures top { Typed (with_items (settled ∷ shown ∷ must one_is_one ∷ [])) }
     ensures kind { ¬ (Typed (with_items (settled ∷ item section.OutputItem (codes "y") (truth true) ∷ []))) }
 {}
 
